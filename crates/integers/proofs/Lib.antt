@@ -1,0 +1,4 @@
+pub mod Squares
+pub mod Diff
+pub mod Size
+pub mod Holds

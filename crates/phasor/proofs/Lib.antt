@@ -1,0 +1,13 @@
+pub mod Each
+pub mod Samples
+pub mod Weights
+pub mod Rule
+pub mod Order
+pub mod Lengths
+pub mod Trace
+pub mod Magnitude
+pub mod Bounds
+pub mod Vector
+pub mod Accuracy
+pub mod Theorems
+pub mod Lanes

@@ -1,0 +1,75 @@
+-- `phasor::amplitudes` meets its contract: the starts, the ends, and then the scaling of each.
+use borrow.Author.Needs.{needs}
+use native.Mathlib.Omega.{arith}
+use Prim.Native.Nat.{_-_}
+use mathlib.Core.Path.{_≡_}
+use Rattle.phasor.proofs.Lanes.{Scaling, end-right, end-small, scaling-begin, scaling-again, scaling-done, never-above}
+use Rattle.phasor.proofs.amplitudes.Statement.{statement}
+use Rattle.phasor.proofs.amplitudes.Tie as tie
+
+abbrev Inv-loop : tie.InvT-loop
+Inv-loop e m₀ c₀ m c = Scaling e c m
+
+abbrev μ-loop : tie.MeasureT-loop
+μ-loop e m₀ c₀ m c = 6 - c
+
+starts-requires : tie.Need-starts-requires Inv-loop μ-loop
+starts-requires c κs = c .pre
+
+ends-requires : tie.Need-ends-requires Inv-loop μ-loop
+ends-requires c κs = c .starts .ensures .short
+
+loop-holds : tie.Need-loop-holds Inv-loop μ-loop
+loop-holds c = search scaling-begin
+
+mul-scaled : tie.Need-mul-scaled Inv-loop μ-loop
+mul-scaled c = search needs
+
+array-copy-out-scaled : tie.Need-array-copy-out-scaled Inv-loop μ-loop
+array-copy-out-scaled c = search needs
+
+scaled-requires : tie.Need-scaled-requires Inv-loop μ-loop
+scaled-requires c κs = (search end-right, search end-small)
+
+mul-m : tie.Need-mul-m Inv-loop μ-loop
+mul-m c = search needs
+
+array-write-m : tie.Need-array-write-m Inv-loop μ-loop
+array-write-m c = search needs
+
+add-c : tie.Need-add-c Inv-loop μ-loop
+add-c c = search needs
+
+loop-less : tie.Need-loop-less Inv-loop μ-loop
+loop-less c = search needs
+
+loop-again : tie.Need-loop-again Inv-loop μ-loop
+loop-again c = search scaling-again
+
+returns : tie.Need-returns Inv-loop μ-loop
+returns c =
+    let b = c .before in
+    let all : b .loop .c ≡ 6 = omega arith in
+    let inv : Scaling (b .before .ends .result) 6 (b .loop .m) = rw all at (b .loop .inv) in
+    let value = scaling-done (b .before .before .before .args .windows) (b .before .before .starts .result) (b .before .ends .result) (b .loop .m)
+    (b .before .before .starts .ensures) (b .before .ends .ensures) inv in
+    (value, never-above (b .before .before .before .args .windows) (b .loop .m) (b .before .before .before .pre) value)
+
+pub amplitudes-spec : {M : Type 1} → statement M
+amplitudes-spec =
+    tie.close
+    (tie.spec
+    Inv-loop
+    μ-loop
+    starts-requires
+    ends-requires
+    loop-holds
+    mul-scaled
+    array-copy-out-scaled
+    scaled-requires
+    mul-m
+    array-write-m
+    add-c
+    loop-less
+    loop-again
+    returns)
