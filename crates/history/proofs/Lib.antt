@@ -1,0 +1,9 @@
+pub mod Channel
+pub mod Figures
+pub mod Refutations
+pub mod Relay
+pub mod Runs
+pub mod Story
+pub mod Theorem
+pub mod Unique
+pub mod Windows

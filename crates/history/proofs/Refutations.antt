@@ -1,0 +1,200 @@
+-- No wrong relay meets demand 3. One list of calls shows most of it, computed: frames of code 512 throughout, every level 1 (document 01,
+-- "Bench figures"): "loss latches in frame 87; in frame 86 none". Rests on demand 3 for our relay, and on the distance to Z.
+use Prim.Native.Nat.{ℕ, zero, suc, _+_, _-_, _≤_, _<_}
+use native.Mathlib.Decide.{decLe}
+use native.Mathlib.Omega.{arith}
+use mathlib.Core.Path.{_≡_, refl, sym, ap, ap₂, _∙_, subst}
+use mathlib.Core.Logic.{_↔_, inl}
+use mathlib.Core.Bool.{true, false}
+use mathlib.Core.List.{List, [], _∷_, _++_, append-nil}
+use lib.IntN.{ℤ, pos, _+ℤ_, _-ℤ_}
+use lib.Dec.{T, leb→le}
+use lib.ListN.{getD, set, replicate}
+use borrow.Author.Tests.{le-ltb}
+use Rattle.phasor.specs.Each.{every, table}
+use Rattle.phasor.specs.Window.{windowSound}
+use Rattle.phasor.specs.Fourier.{re, im, sumOver, cosines, sines}
+use Rattle.phasor.specs.Cordic.{amplitudeOf, scaledOf, lastX, startOf, steps, stepAt}
+use Rattle.phasor.specs.Exact.{AtLeast, AtMost, Within}
+use Rattle.phasor.proofs.Theorems.{accurate, between}
+use Rattle.phasor.proofs.Each.{getD-table}
+use Rattle.relay.specs.declared.Channel.{Channel}
+use Rattle.relay.specs.declared.Relay.{Relay}
+use Rattle.relay.specs.declared.FrameAnswer.{FrameAnswer}
+use Rattle.relay.specs.Bits.{bitOf}
+use Rattle.relay.specs.Settings.{dropsSound, pickupsSound}
+use Rattle.relay.specs.Channel.{noChannel}
+use Rattle.relay.specs.Relay.{channelAt, freshRefusal, freshOf, amplitudeIn, codesSound, inputRefusal, frameOf, maskRefusal, resetOf}
+use Rattle.history.specs.Calls.{Codes, Call, frame, reset, Device, theRelay}
+use Rattle.history.specs.Stories.{story, windowOf, windowAt, LatchOn}
+use Rattle.history.specs.Demand.{framesIn, lossOf, relayAfter, RelayIs, FrameAnswered, Demanded}
+use Rattle.history.specs.WrongRelays.{Wrong, neverTrips, unaltered, fixedAmplitude, fixedLatches, restartsAge, ignoresEnable, oneTooMany, refusesAll}
+use Rattle.history.proofs.Figures.{ones, still, frames512, quiet, latchAfter, figures, limits}
+use Rattle.history.proofs.Relay.{frames-frame, after-end}
+use Rattle.history.proofs.Theorem.{demand3}
+
+-- ---- what demand 3 says of any device that meets it, under levels that are all 1
+
+accepted : freshOf (ones 6) (ones 3) .number ≡ 0
+unfolding freshOf freshRefusal dropsSound pickupsSound every
+accepted = refl
+
+taken : inputRefusal (replicate 6 512) 127 ≡ 0
+unfolding inputRefusal codesSound every
+taken = refl
+
+module _ (d : Device) (meets : Demanded d) where
+  relay-is : (calls : List Call) → RelayIs d (ones 6) (ones 3) calls
+  relay-is calls = meets (ones 6) (ones 3) accepted calls .relay calls [] (sym (append-nil calls))
+
+  frame-is : (past : List Call) (codes : Codes) (enable : ℕ) → inputRefusal (codes .list) enable ≡ 0
+      → FrameAnswered d (ones 6) (ones 3) past (past ++ (frame codes enable ∷ [])) enable (d .frame (relayAfter d (ones 6) (ones 3) past) (codes .list) enable)
+  frame-is past codes enable e = meets (ones 6) (ones 3) accepted (past ++ (frame codes enable ∷ [])) .answers past (frame codes enable) [] refl .0 e
+
+  latch-is : (calls : List Call) → T (latchAfter d calls) ↔ LatchOn (lossOf (ones 6) (ones 3) 0) (story 0 calls)
+  latch-is calls = relay-is calls .lossLatch 0 (omega arith)
+
+-- where our relay's latch is on or off, by the rule, so is that of any such device
+on-at-87 : LatchOn (lossOf (ones 6) (ones 3) 0) (story 0 (quiet 88))
+on-at-87 = latch-is theRelay demand3 (quiet 88) .0 (subst T (sym (figures .at87)) tt)
+
+on-too : (d : Device) → Demanded d → T (latchAfter d (quiet 88))
+on-too d meets = latch-is d meets (quiet 88) .1 on-at-87
+
+off-too : (d : Device) → Demanded d → (calls : List Call) → latchAfter theRelay calls ≡ false → ¬ T (latchAfter d calls)
+off-too d meets calls off t = subst T off (latch-is theRelay demand3 calls .1 (latch-is d meets calls .0 t))
+
+-- ---- the refutations
+
+never-trips : (d : Device) → ((r : Relay) (codes : List ℕ) (enable : ℕ) → d .frame r codes enable .output ≡ 0) → ¬ Demanded d
+never-trips d wrong meets =
+    subst (λ (output : ℕ). T (bitOf output 0)) (wrong _ _ _) (frame-is d meets (quiet 87) (still 512) 127 taken .output 0 (omega arith) .1 (inl on-at-87, tt))
+
+stays : (d : Device) → ((r : Relay) (codes : List ℕ) (enable : ℕ) → d .frame r codes enable .relay ≡ r) → ¬ Demanded d
+stays d wrong meets =
+    let same : relayAfter d (ones 6) (ones 3) (quiet 1) .age ≡ relayAfter d (ones 6) (ones 3) (quiet 0) .age = ap (λ (r : Relay). r .age) (wrong _ _ _) in
+    let frames : framesIn (quiet 1) ≡ 1 = frames-frame [] (still 512) 127 taken in
+    omega (arith, relay-is d meets (quiet 0) .age, relay-is d meets (quiet 1) .age)
+
+-- the windows of one frame of code 512, and of one of code 1023
+abbrev first : ℕ → List ℤ
+first code = windowAt (story 0 (frame (still code) 127 ∷ [])) 0
+
+first-are : (windowSound (first 512) ≡ true) × (windowSound (first 1023) ≡ true) × (amplitudeOf (first 512) ≡ 0) × (amplitudeOf (first 1023) ≡ 2044)
+unfolding every table windowOf windowSound re im sumOver cosines sines amplitudeOf scaledOf lastX startOf steps stepAt inputRefusal codesSound
+first-are = (refl, refl, refl, refl)
+
+-- a number within 2 of both exact amplitudes
+no-number : (m : ℕ) → Within (first 512) m → ¬ Within (first 1023) m
+no-number m low high =
+    let much : AtLeast (first 1023) (pos 2042) = subst (λ (k : ℕ). AtLeast (first 1023) (pos k -ℤ pos 2)) (first-are .3) (accurate (first 1023) (first-are .1) .1 .low) in
+    let none : AtMost (first 512) (pos 2) = subst (λ (k : ℕ). AtMost (first 512) (pos k +ℤ pos 2)) (first-are .2) (accurate (first 512) (first-are .0) .1 .high) in
+    let large : 2042 ≤ m + 2 = leb→le 2042 (m + 2) (between (first 1023) (pos 2042) (pos m +ℤ pos 2) much (high .high) .le) in
+    let least : AtLeast (first 512) (pos (m - 2)) = rw (le-ltb m 2 (omega arith)) at (low .low) in
+    omega (arith, leb→le (m - 2) 2 (between (first 512) (pos (m - 2)) (pos 2) least none .le))
+
+fixed-amplitude : (d : Device) (m : ℕ)
+    → ((r : Relay) (codes : List ℕ) (enable : ℕ) → inputRefusal codes enable ≡ 0 → d .frame r codes enable .amplitudes ≡ replicate 6 m) → ¬ Demanded d
+fixed-amplitude d m wrong meets = no-number m (within 512 taken) (within 1023 (limits .0))
+  where
+    within : (code : ℕ) → inputRefusal (replicate 6 code) 127 ≡ 0 → Within (first code) m
+    within code e = subst (λ (l : List ℕ). Within (first code) (getD l 0 0)) (wrong _ _ _ e) (frame-is d meets [] (still code) 127 e .within 0 (omega arith))
+
+quiet-frames : (n : ℕ) → framesIn (quiet n) ≡ n
+quiet-frames zero = refl
+quiet-frames (suc n) = frames-frame (quiet n) (still 512) 127 taken ∙ ap suc (quiet-frames n)
+
+fixed-latches : (d : Device)
+    → ((drop pickup : List ℕ) (past : List Call) (codes : Codes) (enable c : ℕ) → c < 6 → 73 ≤ framesIn past
+    → channelAt (relayAfter d drop pickup (past ++ (frame codes enable ∷ []))) c .«loss_latch» ≡ channelAt (relayAfter d drop pickup past) c .«loss_latch»)
+    → ¬ Demanded d
+fixed-latches d wrong meets = off-too d meets (quiet 73) (figures .at72) (subst T (repeated 88 (omega arith)) (on-too d meets))
+  where
+    repeated : (n : ℕ) → 73 ≤ n → latchAfter d (quiet n) ≡ latchAfter d (quiet 73)
+    repeated zero h = absurd (omega arith)
+    repeated (suc n) h = by (decLe 73 n) (repeated n)
+      where
+        by : Dec (73 ≤ n) → (73 ≤ n → latchAfter d (quiet n) ≡ latchAfter d (quiet 73)) → latchAfter d (quiet (suc n)) ≡ latchAfter d (quiet 73)
+        by (yes l) more = wrong (ones 6) (ones 3) (quiet n) (still 512) 127 0 (omega arith) (rw (quiet-frames n) l) ∙ more l
+        by (no l) more = ap (λ (k : ℕ). latchAfter d (quiet k)) (let e : suc n ≡ 73 = omega arith in e)
+
+restarts-age : (d : Device) → ((r : Relay) (mask : ℕ) → d .reset r mask .relay .age ≡ 0) → ¬ Demanded d
+unfolding maskRefusal inputRefusal codesSound every
+restarts-age d wrong meets = omega (arith, relay-is d meets (quiet 1 ++ (reset 0 ∷ [])) .age, wrong (relayAfter d (ones 6) (ones 3) (quiet 1)) 0)
+
+ignores-enable : (d : Device) → ((r : Relay) (codes : List ℕ) (enable : ℕ) → d .frame r codes enable .relay ≡ d .frame r codes 127 .relay) → ¬ Demanded d
+ignores-enable d wrong meets =
+    off-too d meets (frames512 0 88) (figures .disabled) (subst (λ (r : Relay). T (channelAt r 0 .«loss_latch»)) (sym (same 88)) (on-too d meets))
+  where
+    same : (n : ℕ) → relayAfter d (ones 6) (ones 3) (frames512 0 n) ≡ relayAfter d (ones 6) (ones 3) (quiet n)
+    same zero = refl
+    same (suc n) =
+        after-end d (d .fresh (ones 6) (ones 3) .relay) (frames512 0 n) (frame (still 512) 0) ∙ wrong _ _ _
+        ∙ ap (λ (r : Relay). d .frame r (replicate 6 512) 127 .relay) (same n) ∙ sym (after-end d (d .fresh (ones 6) (ones 3) .relay) (quiet n) (frame (still 512) 127))
+
+one-too-many : (d : Device)
+    → ((r : Relay) (codes : List ℕ) (enable c : ℕ) → c < 6 → inputRefusal codes enable ≡ 0 → getD (d .frame r codes enable .amplitudes) c 0 ≡ suc (amplitudeIn r codes c))
+    → ¬ Demanded d
+unfolding amplitudeIn windowOf table inputRefusal codesSound every
+one-too-many d wrong meets =
+    let fresh : RelayIs d (ones 6) (ones 3) [] = relay-is d meets [] in
+    let same : amplitudeIn (relayAfter d (ones 6) (ones 3) []) (replicate 6 512) 0 ≡ amplitudeOf (first 512) =
+    ap₂ (λ (w : List ℤ) (k : ℕ). amplitudeOf (set w k (pos 0))) (fresh .samples 0 (omega arith)) (fresh .slot) in
+    omega (arith, same, wrong (relayAfter d (ones 6) (ones 3) []) (replicate 6 512) 127 0 (omega arith) taken, frame-is d meets [] (still 512) 127 taken .amplitude 0 (omega arith))
+
+pub refuted : (d : Device) → Wrong d → ¬ Demanded d
+refuted d (neverTrips wrong) = never-trips d wrong
+refuted d (unaltered wrong) = stays d wrong
+refuted d (fixedAmplitude m wrong) = fixed-amplitude d m wrong
+refuted d (fixedLatches wrong) = fixed-latches d wrong
+refuted d (restartsAge wrong) = restarts-age d wrong
+refuted d (ignoresEnable wrong) = ignores-enable d wrong
+refuted d (oneTooMany wrong) = one-too-many d wrong
+refuted d (refusesAll wrong) = λ meets. wrong (ones 6) (ones 3) (meets (ones 6) (ones 3) accepted [] .made)
+
+-- ---- there are such relays: ours, with one thing of a frame's answer changed
+
+abbrev changed : (Relay → FrameAnswer → FrameAnswer) → Device
+changed f = record { fresh = freshOf; frame = λ r codes enable. f r (frameOf r codes enable); reset = resetOf }
+
+abbrev muted : Device
+muted = changed (λ r a. record { relay = a .relay; number = a .number; amplitudes = a .amplitudes; output = 0 })
+
+abbrev stuck : Device
+stuck = changed (λ r a. record { relay = r; number = a .number; amplitudes = a .amplitudes; output = a .output })
+
+abbrev constant : ℕ → Device
+constant m = changed (λ r a. record { relay = a .relay; number = a .number; amplitudes = replicate 6 m; output = a .output })
+
+-- the latches as the frame found them: up to the first counted frame no run is full, so these are the ones it would fix
+abbrev relatched : Channel → Channel → Channel
+relatched was ch =
+    record { samples = ch .samples; «loss_run» = ch .«loss_run»; «over_run» = ch .«over_run»; «loss_latch» = was .«loss_latch»; «over_latch» = was .«over_latch» }
+
+abbrev frozenAt : Relay → FrameAnswer → ℕ → Channel
+frozenAt r a c = relatched (channelAt r c) (channelAt (a .relay) c)
+
+abbrev frozen : Device
+frozen = changed (λ r a.
+    record {
+      relay = record {
+        channels = table 6 (frozenAt r a);
+        age = a .relay .age;
+        slot = a .relay .slot;
+        settings = a .relay .settings;
+      };
+      number = a .number;
+      amplitudes = a .amplitudes;
+      output = a .output;
+    })
+
+pub wrong-ones : Wrong muted × Wrong stuck × ((m : ℕ) → Wrong (constant m)) × Wrong frozen
+wrong-ones =
+    (neverTrips (λ r codes enable. refl), unaltered (λ r codes enable. refl), λ m. fixedAmplitude m (λ r codes enable e. refl), fixedLatches frozen-latches)
+  where
+    frozen-latches : (drop pickup : List ℕ) (past : List Call) (codes : Codes) (enable c : ℕ) → c < 6 → 73 ≤ framesIn past
+        → channelAt (relayAfter frozen drop pickup (past ++ (frame codes enable ∷ []))) c .«loss_latch» ≡ channelAt (relayAfter frozen drop pickup past) c .«loss_latch»
+    frozen-latches drop pickup past codes enable c h k =
+        ap (λ (r : Relay). channelAt r c .«loss_latch») (after-end frozen (freshOf drop pickup .relay) past (frame codes enable))
+        ∙ ap (λ (ch : Channel). ch .«loss_latch»)
+        (getD-table 6 (frozenAt (relayAfter frozen drop pickup past) (frameOf (relayAfter frozen drop pickup past) (codes .list) enable)) noChannel c h)

@@ -1,0 +1,173 @@
+-- The relay after a list of calls: it is sound, and its settings, age, slot and six channels are those that the calls tell.
+-- One step for a call at the end, by cases on its refusal; then every list. Rests on Channel and on the laws of the relay's definitions.
+use Prim.Native.Nat.{ℕ, suc, _+_, _%_, _<_, min}
+use native.Mathlib.Decide.{ℕ-discrete}
+use native.Mathlib.Omega.{arith}
+use mathlib.Core.Path.{_≡_, refl, sym, ap, _∙_}
+use mathlib.Core.Bool.{Bool, true, false, _&&_, cond}
+use mathlib.Core.List.{List, [], _∷_, _++_, append-nil, append-assoc}
+use lib.Dec.{ltb}
+use lib.ListN.{getD}
+use borrow.Author.Tests.{ltb-true, ltb-false, ne-eqb}
+use Rattle.relay.specs.declared.Relay.{Relay}
+use Rattle.relay.specs.Bits.{bitOf}
+use Rattle.relay.specs.Settings.{settingsOf, settingsSound}
+use Rattle.relay.specs.Channel.{clearedOf}
+use Rattle.relay.specs.Sound.{soundOf}
+use Rattle.relay.specs.Relay.{channelAt, freshRelay, freshOf, ageAfter, slotAfter, nextChannel, acceptedFrame, refusedFrame}
+use Rattle.relay.specs.Relay.{inputRefusal, frameOf, resetChannel, acceptedReset, refusedReset, maskRefusal, resetOf}
+use Rattle.relay.proofs.Laws.{fresh-accepted, fresh-is, fresh-sound, fresh-channel, input-codes, frame-accepted, frame-refused}
+use Rattle.relay.proofs.Laws.{frame-sound, frame-channel, reset-accepted, reset-refused, reset-sound, reset-channel}
+use Rattle.history.specs.Calls.{Codes, Call, frame, reset, refusal, accepted, Device, theRelay, handedBack, after}
+use Rattle.history.specs.Stories.{Event, sampled, cleared, inputOf, eventsOf, story, frames}
+use Rattle.history.specs.Demand.{framesIn, levels, relayAfter}
+use Rattle.history.proofs.Story.{_▷_, frames-sampled, inputs-cleared}
+use Rattle.history.proofs.Channel.{ChannelIs, channel-fresh, channel-cleared, channel-sampled}
+
+-- ---- the stories of the calls
+
+story-end : (c : ℕ) (calls : List Call) (call : Call) → story c (calls ++ (call ∷ [])) ≡ story c calls ++ eventsOf c call
+story-end c [] call = append-nil (eventsOf c call)
+story-end c (x ∷ calls) call = ap (λ (l : List Event). eventsOf c x ++ l) (story-end c calls call) ∙ sym (append-assoc (eventsOf c x) (story c calls) (eventsOf c call))
+
+pub story-frame : (c : ℕ) (calls : List Call) (codes : Codes) (enable : ℕ) → inputRefusal (codes .list) enable ≡ 0
+    → story c (calls ++ (frame codes enable ∷ [])) ≡ story c calls ▷ sampled (inputOf c (codes .list) enable)
+story-frame c calls codes enable e = rw (story-end, e)
+
+story-reset : (c : ℕ) (calls : List Call) (mask : ℕ) → maskRefusal mask ≡ 0
+    → story c (calls ++ (reset mask ∷ [])) ≡ story c calls ++ cond (bitOf mask c) (cleared ∷ []) []
+story-reset c calls mask e = rw (story-end, e)
+
+story-refused : (c : ℕ) (calls : List Call) (call : Call) → ¬ (refusal call ≡ 0) → story c (calls ++ (call ∷ [])) ≡ story c calls
+story-refused c calls (frame codes enable) e = rw (story-end, ne-eqb (inputRefusal (codes .list) enable) 0 e) (append-nil (story c calls))
+story-refused c calls (reset mask) e = rw (story-end, ne-eqb (maskRefusal mask) 0 e) (append-nil (story c calls))
+
+-- an accepted frame is one to each channel
+pub frames-same : (c : ℕ) (calls : List Call) → frames (story c calls) ≡ framesIn calls
+frames-same c [] = refl
+frames-same c (frame codes enable ∷ calls) = by (accepted (frame codes enable)) (frames-same c calls)
+  where
+    by : (b : Bool) → frames (story c calls) ≡ framesIn calls
+        → frames (cond b (sampled (inputOf c (codes .list) enable) ∷ []) [] ++ story c calls) ≡ frames (cond b (sampled (inputOf 0 (codes .list) enable) ∷ []) [] ++ story 0 calls)
+    by true e = ap suc e
+    by false e = e
+frames-same c (reset mask ∷ calls) = by (accepted (reset mask) && bitOf mask c) (accepted (reset mask) && bitOf mask 0) (frames-same c calls)
+  where
+    by : (a b : Bool) → frames (story c calls) ≡ framesIn calls → frames (cond a (cleared ∷ []) [] ++ story c calls) ≡ frames (cond b (cleared ∷ []) [] ++ story 0 calls)
+    by true true e = e
+    by true false e = e
+    by false true e = e
+    by false false e = e
+
+pub frames-frame : (calls : List Call) (codes : Codes) (enable : ℕ) → inputRefusal (codes .list) enable ≡ 0
+    → framesIn (calls ++ (frame codes enable ∷ [])) ≡ suc (framesIn calls)
+frames-frame calls codes enable e = rw (story-frame 0 calls codes enable e) (frames-sampled (story 0 calls) (inputOf 0 (codes .list) enable))
+
+frames-reset : (calls : List Call) (mask : ℕ) → maskRefusal mask ≡ 0 → framesIn (calls ++ (reset mask ∷ [])) ≡ framesIn calls
+frames-reset calls mask e = ap frames (story-reset 0 calls mask e) ∙ by (bitOf mask 0)
+  where
+    by : (b : Bool) → frames (story 0 calls ++ cond b (cleared ∷ []) []) ≡ frames (story 0 calls)
+    by true = rw (inputs-cleared (story 0 calls))
+    by false = rw append-nil
+
+-- ---- the relay
+
+age-step : (age n : ℕ) → age ≡ min 72 n → ageAfter age ≡ min 72 (suc n)
+age-step age n e = by (ltb age 72) refl
+  where
+    by : (b : Bool) → ltb age 72 ≡ b → cond b (age + 1) age ≡ min 72 (suc n)
+    by true q = omega (arith, ltb-true age 72 q)
+    by false q = omega (arith, ltb-false age 72 q)
+
+slot-step : (slot n : ℕ) → slot ≡ n % 8 → slotAfter slot ≡ suc n % 8
+slot-step slot n e = by (ltb slot 7) refl
+  where
+    by : (b : Bool) → ltb slot 7 ≡ b → cond b (slot + 1) 0 ≡ suc n % 8
+    by true q = omega (arith, ltb-true slot 7 q)
+    by false q = omega (arith, ltb-false slot 7 q)
+
+module _ (drop pickup : List ℕ) where
+  pub record Is (calls : List Call) (r : Relay) : Type 0 where
+    pub sound : soundOf r ≡ true
+    pub settings : r .settings ≡ settingsOf drop pickup
+    pub age : r .age ≡ min 72 (framesIn calls)
+    pub slot : r .slot ≡ framesIn calls % 8
+    pub channel : (c : ℕ) → c < 6 → ChannelIs (levels drop pickup c) (story c calls) (channelAt r c)
+
+  fresh-is-so : settingsSound (settingsOf drop pickup) ≡ true → Is [] (freshRelay (settingsOf drop pickup))
+  unfolding freshRelay
+  fresh-is-so e =
+      record {
+        sound = fresh-sound (settingsOf drop pickup) e;
+        settings = refl;
+        age = refl;
+        slot = refl;
+        channel = λ c h. rw (fresh-channel (settingsOf drop pickup) c h) (channel-fresh (levels drop pickup c));
+      }
+
+  pub frame-is : (calls : List Call) (r : Relay) (codes : Codes) (enable : ℕ) → inputRefusal (codes .list) enable ≡ 0 → Is calls r
+      → Is (calls ++ (frame codes enable ∷ [])) (acceptedFrame r (codes .list) enable .relay)
+  unfolding acceptedFrame nextChannel
+  frame-is calls r codes enable e v =
+      record {
+        sound = frame-sound r (codes .list) enable (v .sound) (input-codes (codes .list) enable e);
+        settings = v .settings;
+        age = rw (frames-frame calls codes enable e) (age-step (r .age) (framesIn calls) (v .age));
+        slot = rw (frames-frame calls codes enable e) (slot-step (r .slot) (framesIn calls) (v .slot));
+        channel = λ c h. rw (frame-channel r (codes .list) enable c h, story-frame c calls codes enable e, v .settings)
+            (channel-sampled (levels drop pickup c) (story c calls) (channelAt r c) (r .age) (r .slot) (getD (codes .list) c 0) (bitOf enable c) (bitOf enable 6)
+            (rw (frames-same c calls) (v .age)) (rw (frames-same c calls) (v .slot)) (v .channel c h));
+      }
+
+  reset-is : (calls : List Call) (r : Relay) (mask : ℕ) → maskRefusal mask ≡ 0 → Is calls r → Is (calls ++ (reset mask ∷ [])) (acceptedReset r mask .relay)
+  unfolding acceptedReset resetChannel
+  reset-is calls r mask e v =
+      record {
+        sound = reset-sound r mask (v .sound);
+        settings = v .settings;
+        age = rw (frames-reset calls mask e) (v .age);
+        slot = rw (frames-reset calls mask e) (v .slot);
+        channel = λ c h. rw (reset-channel r mask c h, story-reset c calls mask e) (named c (bitOf mask c) (v .channel c h));
+      }
+    where
+      named : (c : ℕ) (b : Bool) → ChannelIs (levels drop pickup c) (story c calls) (channelAt r c)
+          → ChannelIs (levels drop pickup c) (story c calls ++ cond b (cleared ∷ []) []) (cond b (clearedOf (channelAt r c)) (channelAt r c))
+      named c true w = channel-cleared (levels drop pickup c) (story c calls) (channelAt r c) w
+      named c false w = rw append-nil w
+
+  refused-is : (calls : List Call) (r : Relay) (call : Call) → ¬ (refusal call ≡ 0) → Is calls r → Is (calls ++ (call ∷ [])) r
+  refused-is calls r call e v =
+      record {
+        sound = v .sound;
+        settings = v .settings;
+        age = rw (story-refused 0 calls call e) (v .age);
+        slot = rw (story-refused 0 calls call e) (v .slot);
+        channel = λ c h. rw (story-refused c calls call e) (v .channel c h);
+      }
+
+  call-is : (calls : List Call) (r : Relay) (call : Call) → Dec (refusal call ≡ 0) → Is calls r → Is (calls ++ (call ∷ [])) (handedBack theRelay r call)
+  unfolding refusedFrame refusedReset
+  call-is calls r (frame codes enable) d v = by d
+    where
+      by : Dec (refusal (frame codes enable) ≡ 0) → Is (calls ++ (frame codes enable ∷ [])) (frameOf r (codes .list) enable .relay)
+      by (yes e) = rw (frame-accepted r (codes .list) enable (v .sound) e) (frame-is calls r codes enable e v)
+      by (no e) = rw (frame-refused r (codes .list) enable (v .sound) e) (refused-is calls r (frame codes enable) e v)
+  call-is calls r (reset mask) d v = by d
+    where
+      by : Dec (refusal (reset mask) ≡ 0) → Is (calls ++ (reset mask ∷ [])) (resetOf r mask .relay)
+      by (yes e) = rw (reset-accepted r mask (v .sound) e) (reset-is calls r mask e v)
+      by (no e) = rw (reset-refused r mask (v .sound) e) (refused-is calls r (reset mask) e v)
+
+  -- a list of calls on from others
+  from : (past calls : List Call) (r : Relay) → Is past r → Is (past ++ calls) (after theRelay r calls)
+  from past [] r v = rw append-nil v
+  from past (call ∷ calls) r v =
+      rw (← append-assoc past (call ∷ []) calls) (from (past ++ (call ∷ [])) calls (handedBack theRelay r call) (call-is past r call (ℕ-discrete (refusal call) 0) v))
+
+  pub relay-is : freshOf drop pickup .number ≡ 0 → (calls : List Call) → Is calls (relayAfter theRelay drop pickup calls)
+  relay-is e calls = rw (fresh-is drop pickup (fresh-accepted drop pickup e)) (from [] calls (freshRelay (settingsOf drop pickup)) (fresh-is-so (fresh-accepted drop pickup e)))
+
+-- one call more
+pub after-end : (d : Device) (r : Relay) (past : List Call) (call : Call) → after d r (past ++ (call ∷ [])) ≡ handedBack d (after d r past) call
+after-end d r [] call = refl
+after-end d r (x ∷ past) call = after-end d (handedBack d r x) past call

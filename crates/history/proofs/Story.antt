@@ -1,0 +1,109 @@
+-- A channel's story when one more event comes at its end: frames, resets and windows. Rests on the definitions of the history.
+use Prim.Native.Nat.{ℕ, zero, suc, _+_, _%_, _≤_, _<_, zero-le, suc-le-suc}
+use native.Mathlib.Nat.{le-of-suc-le-suc, le-refl, mod-lt}
+use native.Mathlib.Decide.{ℕ-discrete}
+use native.Mathlib.Omega.{arith}
+use mathlib.Core.Path.{_≡_, refl, sym, ap, ap₂, _∙_, fun-ext}
+use mathlib.Core.Bool.{cond}
+use mathlib.Core.List.{List, [], _∷_, _++_, append-nil}
+use lib.IntN.{ℤ, pos}
+use lib.Dec.{eqb}
+use lib.ListN.{length, getD, set, length-append, length-set, List·getD-append}
+use lib.Seq.{getD-append-seam, ext-getD, getD-set-same, getD-set-other}
+use borrow.Author.Tests.{eq-eqb, ne-eqb}
+use Rattle.phasor.specs.Each.{table}
+use Rattle.phasor.proofs.Each.{length-table, getD-table}
+use Rattle.history.specs.Stories.{Input, Event, sampled, cleared, inputs, frames, inputAt, noInput, resets, resetsBefore, latestInSlot, windowOf, windowAt}
+
+-- one event more
+infixl 60 _▷_
+abbrev pub _▷_ : List Event → Event → List Event
+es ▷ e = es ++ (e ∷ [])
+
+pub inputs-append : (es fs : List Event) → inputs (es ++ fs) ≡ inputs es ++ inputs fs
+inputs-append [] fs = refl
+inputs-append (sampled i ∷ es) fs = ap (λ (l : List Input). i ∷ l) (inputs-append es fs)
+inputs-append (cleared ∷ es) fs = inputs-append es fs
+
+pub frames-sampled : (es : List Event) (i : Input) → frames (es ▷ sampled i) ≡ suc (frames es)
+frames-sampled es i = ap length (inputs-append es (sampled i ∷ [])) ∙ length-append (inputs es) (i ∷ []) ∙ omega arith
+
+pub inputs-cleared : (es : List Event) → inputs (es ▷ cleared) ≡ inputs es
+inputs-cleared es = inputs-append es (cleared ∷ []) ∙ append-nil (inputs es)
+
+pub input-append : (es fs : List Event) (n : ℕ) → n < frames es → inputAt (es ++ fs) n ≡ inputAt es n
+input-append es fs n h = ap (λ (l : List Input). getD l n noInput) (inputs-append es fs) ∙ List·getD-append (inputs es) (inputs fs) noInput n h
+
+pub input-last : (es : List Event) (i : Input) → inputAt (es ▷ sampled i) (frames es) ≡ i
+input-last es i = ap (λ (l : List Input). getD l (frames es) noInput) (inputs-append es (sampled i ∷ [])) ∙ getD-append-seam (inputs es) i [] noInput
+
+-- ---- resets
+
+pub resets-sampled : (es : List Event) (i : Input) → resets (es ▷ sampled i) ≡ resets es
+resets-sampled [] i = refl
+resets-sampled (sampled k ∷ es) i = resets-sampled es i
+resets-sampled (cleared ∷ es) i = ap suc (resets-sampled es i)
+
+pub resets-cleared : (es : List Event) → resets (es ▷ cleared) ≡ suc (resets es)
+resets-cleared [] = refl
+resets-cleared (sampled k ∷ es) = resets-cleared es
+resets-cleared (cleared ∷ es) = ap suc (resets-cleared es)
+
+pub before-append : (es fs : List Event) (n : ℕ) → n < frames es → resetsBefore (es ++ fs) n ≡ resetsBefore es n
+before-append [] fs n h = absurd (omega arith)
+before-append (sampled i ∷ es) fs zero h = refl
+before-append (sampled i ∷ es) fs (suc n) h = before-append es fs n (le-of-suc-le-suc h)
+before-append (cleared ∷ es) fs n h = ap suc (before-append es fs n h)
+
+pub before-last : (es : List Event) (i : Input) → resetsBefore (es ▷ sampled i) (frames es) ≡ resets es
+before-last [] i = refl
+before-last (sampled k ∷ es) i = before-last es i
+before-last (cleared ∷ es) i = ap suc (before-last es i)
+
+pub before-le : (es : List Event) (n : ℕ) → resetsBefore es n ≤ resets es
+before-le [] n = zero-le
+before-le (sampled i ∷ es) zero = zero-le
+before-le (sampled i ∷ es) (suc n) = before-le es n
+before-le (cleared ∷ es) n = suc-le-suc (before-le es n)
+
+-- ---- the window
+
+latest-same : (es fs : List Event) (n k : ℕ) → ((i : ℕ) → i < n → inputAt es i ≡ inputAt fs i) → latestInSlot es n k ≡ latestInSlot fs n k
+latest-same es fs zero k same = refl
+latest-same es fs (suc n) k same =
+    ap₂ (λ (a : Input) (b : ℤ). cond (eqb (n % 8) k) (a .sample) b) (same n (le-refl (suc n))) (latest-same es fs n k (λ i h. same i (omega arith)))
+
+pub window-append : (es fs : List Event) (n : ℕ) → n ≤ frames es → windowOf (es ++ fs) n ≡ windowOf es n
+unfolding windowOf
+window-append es fs n h = ap (λ (f : ℕ → ℤ). table 8 f) (fun-ext (λ k. latest-same (es ++ fs) es n k (λ i l. input-append es fs i (omega arith))))
+
+pub window-cleared : (es : List Event) (n : ℕ) → windowOf (es ▷ cleared) n ≡ windowOf es n
+unfolding windowOf
+window-cleared es n =
+    ap (λ (f : ℕ → ℤ). table 8 f) (fun-ext (λ k. latest-same (es ▷ cleared) es n k (λ i l. ap (λ (is : List Input). getD is i noInput) (inputs-cleared es))))
+
+-- a table with one entry replaced
+set-table : (n i : ℕ) (f : ℕ → ℤ) (x : ℤ) → i < n → set (table n f) i x ≡ table n (λ k. cond (eqb i k) x (f k))
+set-table n i f x h =
+    ext-getD (pos 0) (set (table n f) i x) (table n g) (length-set (table n f) i x ∙ length-table n f ∙ sym (length-table n g))
+    (λ k l. at k (inside k l) (ℕ-discrete k i) ∙ sym (getD-table n g (pos 0) k (inside k l)))
+  where
+    g : ℕ → ℤ
+    g k = cond (eqb i k) x (f k)
+
+    inside : (k : ℕ) → k < length (set (table n f) i x) → k < n
+    inside k l = rw (length-set, length-table) at l
+
+    at : (k : ℕ) → k < n → Dec (k ≡ i) → getD (set (table n f) i x) k (pos 0) ≡ cond (eqb i k) x (f k)
+    at k l (yes e) = rw (e, eq-eqb i i refl) (getD-set-same (table n f) i x (pos 0) (rw length-table h))
+    at k l (no e) = rw (ne-eqb i k (λ q. e (sym q))) (getD-set-other (table n f) i k x (pos 0) e ∙ getD-table n f (pos 0) k l)
+
+-- a frame's sample goes to its slot
+pub window-sampled : (es : List Event) (i : Input)
+    → set (windowOf es (frames es)) (frames es % 8) (i .sample) ≡ windowAt (es ▷ sampled i) (frames es)
+unfolding windowOf
+window-sampled es i =
+    set-table 8 (frames es % 8) (latestInSlot es (frames es)) (i .sample) (mod-lt (frames es) (omega arith))
+    ∙ ap (λ (f : ℕ → ℤ). table 8 f) (fun-ext (λ k.
+    ap₂ (λ (a : Input) (b : ℤ). cond (eqb (frames es % 8) k) (a .sample) b) (sym (input-last es i))
+    (latest-same es (es ▷ sampled i) (frames es) k (λ n l. sym (input-append es (sampled i ∷ []) n l)))))

@@ -1,0 +1,155 @@
+-- Demand 3: every list of frames and resets, refused ones among them, on a relay that is made with accepted settings.
+-- Rests on Relay (what the relay is after a list), Channel (the rule for a latch), Windows, and on what is proved of the amplitude.
+use Prim.Native.Nat.{ℕ, suc, _+_, _≤_, _<_}
+use native.Mathlib.Omega.{arith}
+use mathlib.Core.Path.{_≡_, refl, ap, _∙_}
+use mathlib.Core.Logic.{_↔_, _⊎_, inl, inr, ⊎-elim}
+use mathlib.Core.Bool.{Bool, true, false, _&&_, _||_}
+use mathlib.Core.List.{List, [], _∷_, _++_}
+use lib.IntN.{ℤ}
+use lib.Dec.{T, leb, le→leb, leb→le, lt→ltb, ltb→lt}
+use lib.ListN.{getD}
+use Rattle.phasor.specs.Cordic.{amplitudeOf}
+use Rattle.phasor.specs.Window.{windowSound}
+use Rattle.phasor.proofs.Theorems.{accurate, over-clear, over-near, loss-clear, loss-near}
+use Rattle.phasor.proofs.Each.{length-table, getD-table}
+use Rattle.relay.specs.declared.Channel.{Channel}
+use Rattle.relay.specs.declared.Relay.{Relay}
+use Rattle.relay.specs.declared.ResetAnswer.{ResetAnswer}
+use Rattle.relay.specs.Bits.{bitOf, enabledIn}
+use Rattle.relay.specs.Settings.{Kind, levelsOf}
+use Rattle.relay.specs.Channel.{windowAfter, channelAfter}
+use Rattle.relay.specs.Relay.{channelAt, freshOf, nextChannel, amplitudeIn, outputIn, acceptedFrame, inputRefusal, frameOf, acceptedReset}
+use Rattle.relay.proofs.Laws.{bits-lt, bit-bits, frame-accepted, frame-refused, frame-channel, reset-accepted, reset-refused}
+use Rattle.history.specs.Calls.{Codes, Call, frame, reset, theRelay}
+use Rattle.history.specs.Stories.{inputOf, story, frames, windowOf, windowAt, resets, resetsBefore, FullRun, FullRunMeeting, LatchOn}
+use Rattle.history.specs.Demand.{framesIn, ClearlyBelow, BarelyBelow, ClearlyOver, BarelyOver, Margins, levels}
+use Rattle.history.specs.Demand.{lossOf, overOf, relayAfter, RelayIs, FrameAnswered, Answered, Demanded}
+use Rattle.history.proofs.Channel.{and-both, and-right, RunIs, ChannelIs, loss-rule, over-rule, went-on, ends-here}
+use Rattle.history.proofs.Relay.{Is, relay-is, frame-is, story-frame, frames-same, frames-frame}
+use Rattle.history.proofs.Windows.{window-sound}
+
+-- a latch is on and the channel is enabled
+output-rule : {P Q : Type 0} (a b e : Bool) → (T a ↔ P) → (T b ↔ Q) → T ((a || b) && e) ↔ ((P ⊎ Q) × T e)
+output-rule true b e p q = (λ t. (inl (p .0 tt), t), λ t. t .1)
+output-rule false true e p q = (λ t. (inr (q .0 tt), t), λ t. t .1)
+output-rule false false e p q = (λ t. absurd t, λ t. ⊎-elim (λ u. absurd (p .1 u)) (λ u. absurd (q .1 u)) (t .0))
+
+module _ (drop pickup : List ℕ) (fresh : freshOf drop pickup .number ≡ 0) where
+  abbrev relay : List Call → Relay
+  relay calls = relayAfter theRelay drop pickup calls
+
+  is : (calls : List Call) → Is drop pickup calls (relay calls)
+  is calls = relay-is drop pickup fresh calls
+
+  relay-clause : (calls : List Call) → RelayIs theRelay drop pickup calls
+  relay-clause calls =
+      let v : Is drop pickup calls (relay calls) = is calls in
+      record {
+        sound = v .sound;
+        settings = v .settings;
+        age = v .age;
+        slot = v .slot;
+        samples = λ c h. v .channel c h .samples ∙ ap (windowOf (story c calls)) (frames-same c calls);
+        lossLatch = λ c h. loss-rule (levels drop pickup c) (story c calls) _ (v .channel c h);
+        overLatch = λ c h. over-rule (levels drop pickup c) (story c calls) _ (v .channel c h);
+      }
+
+  -- ---- an accepted frame after the calls `past`
+  module _ (past : List Call) (codes : Codes) (enable : ℕ) (taken : inputRefusal (codes .list) enable ≡ 0) where
+    abbrev calls : List Call
+    calls = past ++ (frame codes enable ∷ [])
+
+    -- channel c after the frame, as the answer's definition has it
+    next-is : (c : ℕ) → c < 6 → ChannelIs (levels drop pickup c) (story c calls) (nextChannel (relay past) (codes .list) enable c)
+    next-is c h =
+        rw (frame-channel (relay past) (codes .list) enable c h) at (frame-is drop pickup past (relay past) codes enable taken (is past) .channel c h)
+
+    window-is : (c : ℕ) → c < 6 → windowAfter (relay past .slot) (getD (codes .list) c 0) (channelAt (relay past) c) ≡ windowAt (story c calls) (framesIn past)
+    unfolding nextChannel channelAfter
+    window-is c h = next-is c h .samples ∙ ap (windowOf (story c calls)) (frames-same c calls ∙ frames-frame past codes enable taken)
+
+    amplitude-is : (c : ℕ) → c < 6 → getD (acceptedFrame (relay past) (codes .list) enable .amplitudes) c 0 ≡ amplitudeOf (windowAt (story c calls) (framesIn past))
+    unfolding acceptedFrame amplitudeIn
+    amplitude-is c h = getD-table 6 (amplitudeIn (relay past) (codes .list)) 0 c h ∙ ap amplitudeOf (window-is c h)
+
+    output-is : (c : ℕ) → c < 6 → T (bitOf (acceptedFrame (relay past) (codes .list) enable .output) c)
+        ↔ ((LatchOn (lossOf drop pickup c) (story c calls) ⊎ LatchOn (overOf drop pickup c) (story c calls)) × T (enabledIn enable c))
+    unfolding acceptedFrame outputIn
+    output-is c h =
+        let ch : Channel = nextChannel (relay past) (codes .list) enable c in
+        rw (bit-bits 6 (outputIn (relay past) (codes .list) enable) c h)
+        (output-rule (ch .«loss_latch») (ch .«over_latch») (enabledIn enable c) (loss-rule (levels drop pickup c) (story c calls) ch (next-is c h))
+        (over-rule (levels drop pickup c) (story c calls) ch (next-is c h)))
+
+    -- the clauses on Z for one kind of run, whose level is met where Clearly holds, and only where Barely does
+    margins : (c : ℕ) → c < 6 → (kind : Kind) → 0 < kind .len → (Clearly Barely : List ℤ → Type 0)
+        → ((w : List ℤ) → windowSound w ≡ true → Clearly w → T (kind .meets w)) → ((w : List ℤ) → windowSound w ≡ true → T (kind .meets w) → Barely w)
+        → (run : ℕ) (before now : Bool) → RunIs kind (story c past) run before → (T now ↔ LatchOn kind (story c calls))
+        → Margins kind Clearly Barely (story c calls) before now
+    margins c h kind some Clearly Barely met near run before now r rule =
+        record {
+          clear = λ j e full each. rule .1
+              (j, record { run = full; meets = λ n a b. met _ (window-sound c h calls (suc n)) (each n a b); afterLastReset = last j e full });
+          near = λ off on.
+              let t = ending off (rule .0 on) in
+              (t .0, t .1, t .2 .run, λ n a b. near _ (window-sound c h calls (suc n)) (t .2 .meets n a b));
+        }
+      where
+        last : (j : ℕ) → j + kind .len ≡ frames (story c calls) → FullRun (story c calls) (kind .len) j → resetsBefore (story c calls) j ≡ resets (story c calls)
+        last j e full = rw (story-frame c past codes enable taken) (ends-here kind (story c past) (inputOf c (codes .list) enable) (kind .len) j some
+            (rw (story-frame c past codes enable taken) at e) (rw (story-frame c past codes enable taken) at full))
+
+        ending : ¬ T before → LatchOn kind (story c calls) → (j : ℕ) × (j + kind .len ≡ frames (story c calls)) × FullRunMeeting kind (story c calls) j
+        ending = rw (story-frame c past codes enable taken) (went-on kind (story c past) (inputOf c (codes .list) enable) some run before r)
+
+    loss-margins : (c : ℕ) → c < 6
+        → Margins (lossOf drop pickup c) (ClearlyBelow (levels drop pickup c .drop)) (BarelyBelow (levels drop pickup c .drop))
+        (story c calls) (channelAt (relay past) c .«loss_latch») (channelAt (relay calls) c .«loss_latch»)
+    loss-margins c h =
+        margins c h (lossOf drop pickup c) (omega arith) (ClearlyBelow (levels drop pickup c .drop)) (BarelyBelow (levels drop pickup c .drop))
+        (λ w s z. lt→ltb (amplitudeOf w) (levels drop pickup c .drop) (loss-clear w s (levels drop pickup c .drop) z))
+        (λ w s t. loss-near w s (levels drop pickup c .drop) (ltb→lt (amplitudeOf w) (levels drop pickup c .drop) t))
+        _ _ _ (is past .channel c h .lossRun) (loss-rule (levels drop pickup c) (story c calls) (channelAt (relay calls) c) (is calls .channel c h))
+
+    over-margins : (c : ℕ) → 3 ≤ c → c < 6
+        → Margins (overOf drop pickup c) (ClearlyOver (levels drop pickup c .pickup)) (BarelyOver (levels drop pickup c .pickup))
+        (story c calls) (channelAt (relay past) c .«over_latch») (channelAt (relay calls) c .«over_latch»)
+    unfolding levelsOf
+    over-margins c current h =
+        margins c h (overOf drop pickup c) (omega arith) (ClearlyOver (levels drop pickup c .pickup)) (BarelyOver (levels drop pickup c .pickup))
+        (λ w s z. and-both (leb 3 c) _ (le→leb 3 c current) (le→leb (levels drop pickup c .pickup) (amplitudeOf w) (over-clear w s (levels drop pickup c .pickup) z)))
+        (λ w s t. over-near w s (levels drop pickup c .pickup) (leb→le (levels drop pickup c .pickup) (amplitudeOf w) (and-right (leb 3 c) _ t)))
+        _ _ _ (is past .channel c h .overRun) (over-rule (levels drop pickup c) (story c calls) (channelAt (relay calls) c) (is calls .channel c h))
+
+    frame-answered : FrameAnswered theRelay drop pickup past calls enable (frameOf (relay past) (codes .list) enable)
+    unfolding acceptedFrame
+    frame-answered =
+        rw (frame-accepted (relay past) (codes .list) enable (is past .sound) taken)
+        (record {
+          number = refl;
+          six = length-table 6 (amplitudeIn (relay past) (codes .list));
+          amplitude = amplitude-is;
+          within = λ c h. rw (amplitude-is c h) (accurate _ (window-sound c h calls (suc (framesIn past))) .1);
+          bounded = λ c h. rw (amplitude-is c h) (accurate _ (window-sound c h calls (suc (framesIn past))) .0);
+          output = output-is;
+          sixBits = bits-lt 6 (outputIn (relay past) (codes .list) enable);
+          lossMargins = loss-margins;
+          overMargins = over-margins;
+        })
+
+  answered : (past : List Call) (call : Call) → Answered theRelay drop pickup past call
+  unfolding acceptedReset
+  answered past (frame codes enable) =
+      (frame-answered past codes enable, frame-refused (relay past) (codes .list) enable (is past .sound))
+  answered past (reset mask) =
+      (λ e. ap (λ (a : ResetAnswer). a .number) (reset-accepted (relay past) mask (is past .sound) e), reset-refused (relay past) mask (is past .sound))
+
+-- DEMAND 3
+pub demand3 : Demanded theRelay
+demand3 drop pickup fresh calls =
+    record {
+      made = fresh;
+      relay = λ past rest e. relay-clause drop pickup fresh past;
+      answers = λ past call rest e. answered drop pickup fresh past call;
+    }

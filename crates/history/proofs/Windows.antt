@@ -1,0 +1,54 @@
+-- Every window of the history holds samples of accepted codes, so that what is known of the amplitude holds of it.
+-- Rests on the laws of the relay's definitions.
+use Prim.Native.Nat.{ℕ, zero, suc, _%_, _<_}
+use mathlib.Core.Path.{_≡_, refl}
+use mathlib.Core.Bool.{Bool, true, false, _&&_, cond}
+use mathlib.Core.List.{List, [], _∷_, _++_}
+use lib.IntN.{pos}
+use lib.Dec.{eqb}
+use lib.ListN.{getD}
+use borrow.Author.Tests.{leb-true, eqb-true}
+use Rattle.phasor.specs.Window.{sampleOf, sampleSound, windowSound}
+use Rattle.phasor.proofs.Each.{every-at, every-true, getD-table}
+use Rattle.relay.specs.Bits.{bitOf}
+use Rattle.relay.specs.Relay.{codesSound, inputRefusal}
+use Rattle.relay.proofs.Laws.{input-codes, sample-sound}
+use Rattle.history.specs.Calls.{Codes, Call, frame, reset, accepted}
+use Rattle.history.specs.Stories.{Event, sampled, cleared, inputOf, story, inputAt, latestInSlot, windowOf}
+
+abbrev Sound : List Event → Type 0
+Sound es = (n : ℕ) → sampleSound (inputAt es n .sample) ≡ true
+
+code-sound : (codes : Codes) (enable c : ℕ) → c < 6 → accepted (frame codes enable) ≡ true → sampleSound (sampleOf (getD (codes .list) c 0)) ≡ true
+unfolding codesSound
+code-sound codes enable c h e =
+    sample-sound (getD (codes .list) c 0)
+    (leb-true _ 1023 (every-at 6 _ (input-codes (codes .list) enable (eqb-true (inputRefusal (codes .list) enable) 0 e)) c h))
+
+story-sound : (c : ℕ) → c < 6 → (calls : List Call) → Sound (story c calls)
+story-sound c h [] = λ n. refl
+story-sound c h (frame codes enable ∷ calls) = by (accepted (frame codes enable)) (code-sound codes enable c h) (story-sound c h calls)
+  where
+    by : (b : Bool) → (b ≡ true → sampleSound (sampleOf (getD (codes .list) c 0)) ≡ true) → Sound (story c calls)
+        → Sound (cond b (sampled (inputOf c (codes .list) enable) ∷ []) [] ++ story c calls)
+    by true s rest zero = s refl
+    by true s rest (suc n) = rest n
+    by false s rest n = rest n
+story-sound c h (reset mask ∷ calls) = by (accepted (reset mask) && bitOf mask c) (story-sound c h calls)
+  where
+    by : (b : Bool) → Sound (story c calls) → Sound (cond b (cleared ∷ []) [] ++ story c calls)
+    by true rest n = rest n
+    by false rest n = rest n
+
+latest-sound : (es : List Event) → Sound es → (n k : ℕ) → sampleSound (latestInSlot es n k) ≡ true
+latest-sound es s zero k = refl
+latest-sound es s (suc n) k = by (eqb (n % 8) k) (latest-sound es s n k)
+  where
+    by : (b : Bool) → sampleSound (latestInSlot es n k) ≡ true → sampleSound (cond b (inputAt es n .sample) (latestInSlot es n k)) ≡ true
+    by true rest = s n
+    by false rest = rest
+
+pub window-sound : (c : ℕ) → c < 6 → (calls : List Call) (n : ℕ) → windowSound (windowOf (story c calls) n) ≡ true
+unfolding windowSound windowOf
+window-sound c h calls n =
+    every-true 8 _ (λ k l. rw (getD-table 8 (latestInSlot (story c calls) n) (pos 0) k l) (latest-sound (story c calls) (story-sound c h calls) n k))

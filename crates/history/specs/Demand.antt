@@ -1,0 +1,120 @@
+-- Demand 3 of document 01: one claim about every list of frames and resets, refused ones among them, from a fresh relay.
+-- It is stated for any device; `Demanded theRelay` is the theorem. Rests on the history read from the calls and on the exact amplitude.
+use Prim.Native.Nat.{ℕ, _+_, _%_, _≤_, _<_, min}
+use mathlib.Core.Path.{_≡_}
+use mathlib.Core.Logic.{_⊎_, _↔_}
+use mathlib.Core.Bool.{Bool, true}
+use mathlib.Core.List.{List, [], _∷_, _++_}
+use lib.IntN.{ℤ, pos, _+ℤ_, _-ℤ_}
+use lib.Dec.{T}
+use lib.ListN.{length, getD}
+use Rattle.phasor.specs.Cordic.{amplitudeOf}
+use Rattle.phasor.specs.Exact.{AtLeast, Below, Within}
+use Rattle.relay.specs.declared.Levels.{Levels}
+use Rattle.relay.specs.declared.Relay.{Relay}
+use Rattle.relay.specs.declared.FrameAnswer.{FrameAnswer}
+use Rattle.relay.specs.declared.ResetAnswer.{ResetAnswer}
+use Rattle.relay.specs.Bits.{bitOf, enabledIn}
+use Rattle.relay.specs.Settings.{Kind, settingsOf, levelsOf, loss, over}
+use Rattle.relay.specs.Sound.{soundOf}
+use Rattle.relay.specs.Relay.{channelAt, freshOf, refusedFrame, refusedReset, inputRefusal, maskRefusal}
+use Rattle.history.specs.Calls.{Call, frame, reset, Device, after}
+use Rattle.history.specs.Stories.{Event, story, frames, windowOf, windowAt, InEach, FullRun, LatchOn}
+
+-- the number of accepted frames, as channel 0 meets them; each channel meets as many
+abbrev pub framesIn : List Call → ℕ
+framesIn calls = frames (story 0 calls)
+
+-- the levels with the margin of 2: what makes sure that a level is met, and what a met level makes sure of
+abbrev pub ClearlyBelow : ℕ → List ℤ → Type 0
+ClearlyBelow drop w = Below w (pos drop -ℤ pos 2)
+
+abbrev pub BarelyBelow : ℕ → List ℤ → Type 0
+BarelyBelow drop w = Below w (pos drop +ℤ pos 2)
+
+abbrev pub ClearlyOver : ℕ → List ℤ → Type 0
+ClearlyOver pickup w = AtLeast w (pos pickup +ℤ pos 2)
+
+abbrev pub BarelyOver : ℕ → List ℤ → Type 0
+BarelyOver pickup w = AtLeast w (pos pickup -ℤ pos 2)
+
+-- The clauses on Z at a frame, the latest of `es`: the latch was `before` and is `now`.
+pub record Margins (kind : Kind) (Clearly Barely : List ℤ → Type 0) (es : List Event) (before now : Bool) : Type 0 where
+  -- "if Z ≥ pickup + 2 (over) or Z < drop − 2 (loss) in each frame of a full run, the latch is on after its last frame"
+  pub clear : (j : ℕ) → j + kind .len ≡ frames es → FullRun es (kind .len) j → InEach j (kind .len) (λ n. Clearly (windowAt es n)) → T now
+  -- "where a latch went on in a frame, Z ≥ pickup − 2 or Z < drop + 2 held in each frame of the full run ending there"
+  pub near : ¬ T before → T now
+      → (j : ℕ) × (j + kind .len ≡ frames es) × FullRun es (kind .len) j × InEach j (kind .len) (λ n. Barely (windowAt es n))
+
+-- a channel's levels, and its two kinds of run under them; a voltage's over run never meets its level
+module _ (drop pickup : List ℕ) (c : ℕ) where
+  abbrev pub levels : Levels
+  levels = levelsOf (settingsOf drop pickup) c
+
+  abbrev pub lossOf : Kind
+  lossOf = loss levels
+
+  abbrev pub overOf : Kind
+  overOf = over levels
+
+module _ (d : Device) (drop pickup : List ℕ) where
+  -- the relay after a list of calls from the fresh one: "nothing alters the relay between two calls"
+  abbrev pub relayAfter : List Call → Relay
+  relayAfter calls = after d (d .fresh drop pickup .relay) calls
+
+  -- What the relay is after a list of calls.
+  pub record RelayIs (calls : List Call) : Type 0 where
+    -- "Refusal 2 never occurs in it", and a relay keeps the settings it was made with
+    pub sound : soundOf (relayAfter calls) ≡ true
+    pub settings : relayAfter calls .settings ≡ settingsOf drop pickup
+    -- so a frame "found age 72" exactly where its number is 72 or more; "frame n goes to slot n mod 8"
+    pub age : relayAfter calls .age ≡ min 72 (framesIn calls)
+    pub slot : relayAfter calls .slot ≡ framesIn calls % 8
+    pub samples : (c : ℕ) → c < 6 → channelAt (relayAfter calls) c .samples ≡ windowOf (story c calls) (framesIn calls)
+    -- "A loss latch, or a current's over latch, is on exactly when .."; a voltage's over latch never is
+    pub lossLatch : (c : ℕ) → c < 6 → T (channelAt (relayAfter calls) c .«loss_latch») ↔ LatchOn (lossOf drop pickup c) (story c calls)
+    pub overLatch : (c : ℕ) → c < 6 → T (channelAt (relayAfter calls) c .«over_latch») ↔ LatchOn (overOf drop pickup c) (story c calls)
+
+  -- What an accepted frame after the calls `past` answers. `calls` are these and the frame, which has the number framesIn past.
+  pub record FrameAnswered (past calls : List Call) (enable : ℕ) (answer : FrameAnswer) : Type 0 where
+    pub number : answer .number ≡ 0
+    -- "Frame n answers the six m, each within 2 of Z"
+    pub six : length (answer .amplitudes) ≡ 6
+    pub amplitude : (c : ℕ) → c < 6 → getD (answer .amplitudes) c 0 ≡ amplitudeOf (windowAt (story c calls) (framesIn past))
+    pub within : (c : ℕ) → c < 6 → Within (windowAt (story c calls) (framesIn past)) (getD (answer .amplitudes) c 0)
+    pub bounded : (c : ℕ) → c < 6 → getD (answer .amplitudes) c 0 ≤ 10700
+    -- "bit c is 1 exactly when channel c has a latch on by this rule after frame n and is enabled in it"
+    pub output : (c : ℕ) → c < 6
+        → T (bitOf (answer .output) c) ↔ ((LatchOn (lossOf drop pickup c) (story c calls) ⊎ LatchOn (overOf drop pickup c) (story c calls)) × T (enabledIn enable c))
+    pub sixBits : answer .output < 64
+    -- "The clauses on Z"
+    pub lossMargins : (c : ℕ) → c < 6
+        → Margins (lossOf drop pickup c) (ClearlyBelow (levels drop pickup c .drop)) (BarelyBelow (levels drop pickup c .drop))
+        (story c calls) (channelAt (relayAfter past) c .«loss_latch») (channelAt (relayAfter calls) c .«loss_latch»)
+    pub overMargins : (c : ℕ) → 3 ≤ c → c < 6
+        → Margins (overOf drop pickup c) (ClearlyOver (levels drop pickup c .pickup)) (BarelyOver (levels drop pickup c .pickup))
+        (story c calls) (channelAt (relayAfter past) c .«over_latch») (channelAt (relayAfter calls) c .«over_latch»)
+
+  -- What a call after the calls `past` answers. "A refused call changes nothing": its number, zeros, and the relay as given.
+  abbrev pub Answered : List Call → Call → Type 0
+  Answered past (frame codes enable) =
+      let answer : FrameAnswer = d .frame (relayAfter past) (codes .list) enable in
+      let number : ℕ = inputRefusal (codes .list) enable in
+      (number ≡ 0 → FrameAnswered past (past ++ (frame codes enable ∷ [])) enable answer)
+      × (¬ (number ≡ 0) → answer ≡ refusedFrame (relayAfter past) number)
+  Answered past (reset mask) =
+      let answer : ResetAnswer = d .reset (relayAfter past) mask in
+      let number : ℕ = maskRefusal mask in
+      (number ≡ 0 → answer .number ≡ 0)
+      × (¬ (number ≡ 0) → answer ≡ refusedReset (relayAfter past) number)
+
+  -- Demand 3, "a single claim about a whole list": the relay after each part of it from the start, and the answer of each call in it.
+  pub record Demand3 (calls : List Call) : Type 0 where
+    pub made : d .fresh drop pickup .number ≡ 0
+    pub relay : (past rest : List Call) → calls ≡ past ++ rest → RelayIs past
+    pub answers : (past : List Call) (call : Call) (rest : List Call) → calls ≡ past ++ (call ∷ rest) → Answered past call
+
+-- Demand 3: "from a fresh relay made with accepted settings", every list, "the empty one too". The code's arrays hold six and three levels, and
+-- its bytes are below 256; the claim is for whatever lists of levels making a relay accepts, and for any number in a byte's place.
+abbrev pub Demanded : Device → Type 0
+Demanded d = (drop pickup : List ℕ) → freshOf drop pickup .number ≡ 0 → (calls : List Call) → Demand3 d drop pickup calls

@@ -1,0 +1,4 @@
+pub mod Calls
+pub mod Demand
+pub mod Stories
+pub mod WrongRelays

@@ -1,0 +1,55 @@
+-- One channel: what a frame and a reset make of it (document 01, "Frames, runs, latches, resets").
+-- Rests on the two kinds of run and on a window's samples.
+use Prim.Native.Nat.{ℕ, suc, min}
+use mathlib.Core.Bool.{Bool, false, _&&_, _||_, cond}
+use mathlib.Core.List.{List, []}
+use lib.IntN.{ℤ, pos}
+use lib.Dec.{eqb}
+use lib.ListN.{set, replicate}
+use Rattle.phasor.specs.Window.{sampleOf}
+use Rattle.relay.specs.declared.Channel.{Channel}
+use Rattle.relay.specs.declared.Levels.{Levels}
+use Rattle.relay.specs.Settings.{Kind, loss, over}
+
+-- what a list of channels reads as past its end
+abbrev pub noChannel : Channel
+noChannel = record { samples = []; «loss_run» = 0; «over_run» = 0; «loss_latch» = false; «over_latch» = false }
+
+-- "A fresh window is eight zeros"; a fresh channel has "all runs 0, all latches off"
+unfoldable pub freshChannel : Channel
+freshChannel = record { samples = replicate 8 (pos 0); «loss_run» = 0; «over_run» = 0; «loss_latch» = false; «over_latch» = false }
+
+-- what a reset that names the channel clears: "runs and latches .. and nothing else"
+abbrev pub clearedOf : Channel → Channel
+clearedOf ch = record { samples = ch .samples; «loss_run» = 0; «over_run» = 0; «loss_latch» = false; «over_latch» = false }
+
+-- the window that step 1 leaves: the frame's sample in its slot
+abbrev pub windowAfter : ℕ → ℕ → Channel → List ℤ
+windowAfter slot code ch = set (ch .samples) slot (sampleOf code)
+
+-- a run after steps 2 and 3: as it was in a frame that is not counted; otherwise grown by 1 up to its length where the channel is
+-- enabled and the window meets the level, else 0
+unfoldable pub nextRun : Kind → Bool → Bool → List ℤ → ℕ → ℕ
+nextRun kind counted enabled window run = cond counted (cond (enabled && kind .meets window) (min (kind .len) (suc run)) 0) run
+
+-- a latch after step 4, in every accepted frame: a run at its length turns it on
+abbrev pub nextLatch : Kind → ℕ → Bool → Bool
+nextLatch kind run latch = latch || eqb run (kind .len)
+
+-- steps 1 to 4 of a frame, for one channel
+unfoldable pub channelAfter : Levels → ℕ → Bool → Bool → ℕ → Channel → Channel
+channelAfter levels slot counted enabled code ch =
+    let window : List ℤ = windowAfter slot code ch in
+    let lossRun : ℕ = nextRun (loss levels) counted enabled window (ch .«loss_run») in
+    let overRun : ℕ = nextRun (over levels) counted enabled window (ch .«over_run») in
+    record {
+      samples = window;
+      «loss_run» = lossRun;
+      «over_run» = overRun;
+      «loss_latch» = nextLatch (loss levels) lossRun (ch .«loss_latch»);
+      «over_latch» = nextLatch (over levels) overRun (ch .«over_latch»);
+    }
+
+-- the channel has a latch on
+abbrev pub latchOn : Channel → Bool
+latchOn ch = ch .«loss_latch» || ch .«over_latch»

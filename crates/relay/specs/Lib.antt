@@ -1,0 +1,5 @@
+pub mod Bits
+pub mod Channel
+pub mod Relay
+pub mod Settings
+pub mod Sound

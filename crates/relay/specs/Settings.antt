@@ -1,0 +1,49 @@
+-- The settings, a channel's own levels, and its two kinds of run (document 01, "Frames, runs, latches, resets").
+-- Rests on the amplitude of a window.
+use Prim.Native.Nat.{ℕ, _-_}
+use mathlib.Core.Bool.{Bool, _&&_, cond}
+use mathlib.Core.List.{List}
+use lib.IntN.{ℤ}
+use lib.Dec.{ltb, leb}
+use lib.ListN.{getD}
+use Rattle.phasor.specs.Each.{every}
+use Rattle.phasor.specs.Cordic.{amplitudeOf}
+use Rattle.relay.specs.declared.Levels.{Levels}
+use Rattle.relay.specs.declared.Settings.{Settings}
+
+-- "Channels 0, 1, 2 are voltages; 3, 4, 5 are currents."
+abbrev pub isCurrent : ℕ → Bool
+isCurrent c = leb 3 c
+
+-- "Settings: a drop level for each channel and a pickup level for each current, 1 to 10,700."
+abbrev pub settingsOf : List ℕ → List ℕ → Settings
+settingsOf drop pickup = record { drop = drop; pickup = pickup }
+
+abbrev pub levelSound : ℕ → Bool
+levelSound v = leb 1 v && leb v 10700
+
+unfoldable pub dropsSound : List ℕ → Bool
+dropsSound drop = every 6 (λ c. levelSound (getD drop c 0))
+
+unfoldable pub pickupsSound : List ℕ → Bool
+pickupsSound pickup = every 3 (λ c. levelSound (getD pickup c 0))
+
+abbrev pub settingsSound : Settings → Bool
+settingsSound s = dropsSound (s .drop) && pickupsSound (s .pickup)
+
+-- channel c's own levels; a voltage has no pickup, and its place holds 0
+unfoldable pub levelsOf : Settings → ℕ → Levels
+levelsOf s c = record { drop = getD (s .drop) c 0; pickup = cond (isCurrent c) (getD (s .pickup) (c - 3) 0) 0; current = isCurrent c }
+
+-- One kind of run of a channel: how many frames make a full run (a term of document 01), and whether a window meets the level.
+pub record Kind : Type 0 where
+  pub len : ℕ
+  pub meets : List ℤ → Bool
+
+-- the loss run: 16 frames with m < drop
+abbrev pub loss : Levels → Kind
+loss levels = record { len = 16; meets = λ w. ltb (amplitudeOf w) (levels .drop) }
+
+-- the over run: 4 frames with m ≥ pickup; a voltage has none
+abbrev pub over : Levels → Kind
+over levels = record { len = 4; meets = λ w. levels .current && leb (levels .pickup) (amplitudeOf w) }

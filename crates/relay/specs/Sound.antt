@@ -1,0 +1,25 @@
+-- A sound relay, a term of document 01: "settings are in range, age is 0 to 72, slot 0 to 7, samples −512 to 511, loss runs 0 to 16,
+-- over runs 0 to 4. A voltage has no over run and no over latch; a place kept for one must hold 0 or off." No other tie is asked.
+use mathlib.Core.Bool.{Bool, _&&_, not, cond}
+use mathlib.Core.List.{List}
+use Prim.Native.Nat.{ℕ}
+use lib.Dec.{leb, eqb}
+use lib.ListN.{getD}
+use Rattle.phasor.specs.Each.{every}
+use Rattle.phasor.specs.Window.{windowSound}
+use Rattle.relay.specs.declared.Channel.{Channel}
+use Rattle.relay.specs.declared.Relay.{Relay}
+use Rattle.relay.specs.Settings.{isCurrent, settingsSound}
+use Rattle.relay.specs.Channel.{noChannel}
+
+abbrev pub overSound : Bool → Channel → Bool
+overSound current ch = cond current (leb (ch .«over_run») 4) (eqb (ch .«over_run») 0 && not (ch .«over_latch»))
+
+unfoldable pub channelSound : Bool → Channel → Bool
+channelSound current ch = windowSound (ch .samples) && leb (ch .«loss_run») 16 && overSound current ch
+
+unfoldable pub channelsSound : List Channel → Bool
+channelsSound channels = every 6 (λ c. channelSound (isCurrent c) (getD channels c noChannel))
+
+unfoldable pub soundOf : Relay → Bool
+soundOf r = settingsSound (r .settings) && leb (r .age) 72 && leb (r .slot) 7 && channelsSound (r .channels)
