@@ -16,7 +16,8 @@ use Rattle.relay.specs.Channel.{clearedOf}
 use Rattle.relay.specs.Sound.{soundOf}
 use Rattle.relay.specs.Relay.{channelAt, freshRelay, freshOf, ageAfter, slotAfter, nextChannel, acceptedFrame, refusedFrame}
 use Rattle.relay.specs.Relay.{inputRefusal, frameOf, resetChannel, acceptedReset, refusedReset, maskRefusal, resetOf}
-use Rattle.relay.proofs.Laws.{fresh-accepted, fresh-is, fresh-sound, fresh-channel, input-codes, frame-accepted, frame-refused}
+use Rattle.relay.proofs.Laws.{fresh-accepted, fresh-is, fresh-sound, fresh-channel, frame-accepted, frame-refused}
+use Rattle.relay.proofs.Sound.{input-codes}
 use Rattle.relay.proofs.Laws.{frame-sound, frame-channel, reset-accepted, reset-refused, reset-sound, reset-channel}
 use Rattle.history.specs.Calls.{Codes, Call, frame, reset, refusal, accepted, Device, theRelay, handedBack, after}
 use Rattle.history.specs.Stories.{Event, sampled, cleared, inputOf, eventsOf, story, frames}

@@ -20,7 +20,8 @@ use Rattle.relay.specs.Bits.{bitOf, enabledIn}
 use Rattle.relay.specs.Settings.{Kind, levelsOf}
 use Rattle.relay.specs.Channel.{windowAfter, channelAfter}
 use Rattle.relay.specs.Relay.{channelAt, freshOf, nextChannel, amplitudeIn, outputIn, acceptedFrame, inputRefusal, frameOf, acceptedReset}
-use Rattle.relay.proofs.Laws.{bits-lt, bit-bits, frame-accepted, frame-refused, frame-channel, reset-accepted, reset-refused}
+use Rattle.relay.proofs.Output.{bits-lt, bit-bits}
+use Rattle.relay.proofs.Laws.{frame-accepted, frame-refused, frame-channel, reset-accepted, reset-refused}
 use Rattle.history.specs.Calls.{Codes, Call, frame, reset, theRelay}
 use Rattle.history.specs.Stories.{inputOf, story, frames, windowOf, windowAt, resets, resetsBefore, FullRun, FullRunMeeting, LatchOn}
 use Rattle.history.specs.Demand.{framesIn, ClearlyBelow, BarelyBelow, ClearlyOver, BarelyOver, Margins, levels}

@@ -12,7 +12,8 @@ use Rattle.phasor.specs.Window.{sampleOf, sampleSound, windowSound}
 use Rattle.phasor.proofs.Each.{every-at, every-true, getD-table}
 use Rattle.relay.specs.Bits.{bitOf}
 use Rattle.relay.specs.Relay.{codesSound, inputRefusal}
-use Rattle.relay.proofs.Laws.{input-codes, sample-sound}
+use Rattle.relay.proofs.Sound.{input-codes}
+use Rattle.phasor.proofs.Samples.{sample-is-sound}
 use Rattle.history.specs.Calls.{Codes, Call, frame, reset, accepted}
 use Rattle.history.specs.Stories.{Event, sampled, cleared, inputOf, story, inputAt, latestInSlot, windowOf}
 
@@ -22,7 +23,7 @@ Sound es = (n : ℕ) → sampleSound (inputAt es n .sample) ≡ true
 code-sound : (codes : Codes) (enable c : ℕ) → c < 6 → accepted (frame codes enable) ≡ true → sampleSound (sampleOf (getD (codes .list) c 0)) ≡ true
 unfolding codesSound
 code-sound codes enable c h e =
-    sample-sound (getD (codes .list) c 0)
+    sample-is-sound (getD (codes .list) c 0)
     (leb-true _ 1023 (every-at 6 _ (input-codes (codes .list) enable (eqb-true (inputRefusal (codes .list) enable) 0 e)) c h))
 
 story-sound : (c : ℕ) → c < 6 → (calls : List Call) → Sound (story c calls)

@@ -1,68 +1,31 @@
 -- Laws of the relay's definitions that hold with no code: what an accepted or a refused call is, what it makes of channel c, and that a
--- fresh relay is sound and every accepted call leaves it so. Rests on the definitions, and on the laws of `every` and `table`.
-use Prim.Native.Nat.{ℕ, zero, suc, _+_, _-_, _*_, _/_, _%_, _^_, _≤_, _<_, min}
-use native.Mathlib.Nat.{add-zero, add-suc, pow-succ', one-le-pow, add-mul-div-left, add-div-right, div-eq-of-lt, add-mul-mod-self-left}
-use native.Mathlib.Decide.{ℕ-discrete}
+-- fresh relay is sound and every accepted call leaves it so. Rests on the definitions, and on what a sound relay says of its parts.
+use Prim.Native.Nat.{ℕ, suc, _+_, _-_, _≤_, _<_, min}
 use native.Mathlib.Omega.{arith}
-use mathlib.Core.Path.{_≡_, refl, ap, _∙_}
+use mathlib.Core.Path.{_≡_, refl, _∙_}
 use mathlib.Core.Bool.{Bool, true, false, _&&_, _||_, not, cond, false≢true}
-use mathlib.Core.List.{List, [], _∷_}
-use lib.IntN.{ℤ, pos, negsuc}
+use mathlib.Core.List.{List}
+use lib.IntN.{ℤ}
 use lib.Dec.{leb, ltb, eqb}
-use lib.ListN.{getD, set, getD-replicate}
+use lib.ListN.{getD, getD-replicate}
 use borrow.Author.Tests.{ltb-true, leb-true, le-leb, eqb-true, ne-eqb}
 use Rattle.phasor.specs.Each.{every}
 use Rattle.phasor.specs.Cordic.{amplitudeOf}
-use Rattle.phasor.specs.Window.{sampleOf, sampleSound, windowSound}
-use Rattle.phasor.proofs.Each.{and-true, and-left, and-right, every-at, every-true, getD-table}
+use Rattle.phasor.specs.Window.{sampleOf, windowSound}
+use Rattle.phasor.proofs.Samples.{sample-is-sound, window-set}
+use Rattle.phasor.proofs.Each.{and-true, and-left, and-right, getD-table}
 use Rattle.relay.specs.declared.Channel.{Channel}
 use Rattle.relay.specs.declared.Levels.{Levels}
 use Rattle.relay.specs.declared.Settings.{Settings}
 use Rattle.relay.specs.declared.Relay.{Relay}
 use Rattle.relay.specs.declared.FreshAnswer.{FreshAnswer}
-use Rattle.relay.specs.Bits.{bitOf, bitsBelow, enabledIn}
+use Rattle.relay.specs.Bits.{bitOf, enabledIn}
 use Rattle.relay.specs.Settings.{isCurrent, settingsOf, settingsSound, levelsOf, loss}
 use Rattle.relay.specs.Channel.{noChannel, freshChannel, clearedOf, windowAfter, nextRun, channelAfter}
+use Rattle.relay.proofs.Sound.{Sound, sound-says, says-sound, code-le}
 use Rattle.relay.specs.Sound.{overSound, channelSound, channelsSound, soundOf}
 use Rattle.relay.specs.Relay.{channelAt, freshRelay, zeroRelay, freshRefusal, freshOf, counted, ageAfter, slotAfter, nextChannel, acceptedFrame, refusedFrame}
 use Rattle.relay.specs.Relay.{codesSound, inputRefusal, frameRefusal, frameOf, resetChannel, acceptedReset, refusedReset, maskRefusal, resetRefusal, resetOf}
-
--- ---- the bits of a byte made of bits
-
-cond-le : (b : Bool) (n : ℕ) → cond b n 0 ≤ n
-cond-le true n = omega arith
-cond-le false n = omega arith
-
-pub bits-lt : (n : ℕ) (p : ℕ → Bool) → bitsBelow n p < 2 ^ n
-unfolding bitsBelow
-bits-lt zero p = omega arith
-bits-lt (suc n) p = omega (arith, bits-lt n p, cond-le (p n) (2 ^ n), pow-succ' 2 n)
-
--- a higher bit does not touch the lower ones, and the highest is read off
-below-bit : (x q k : ℕ) (b : Bool) → 0 < q → (x + cond b (q * (2 * k)) 0) / q % 2 ≡ x / q % 2
-below-bit x q k true h = rw (add-mul-div-left x (2 * k) h) (add-mul-mod-self-left (x / q) 2 k)
-below-bit x q k false h = rw add-zero
-
-top-bit : (x q : ℕ) (b : Bool) → x < q → eqb ((x + cond b q 0) / q % 2) 1 ≡ b
-top-bit x q true h = rw (add-div-right x (let p : 0 < q = omega arith in p), div-eq-of-lt h)
-top-bit x q false h = rw (add-zero, div-eq-of-lt h)
-
-power-split : (c d : ℕ) → 2 ^ suc (c + d) ≡ 2 ^ c * (2 * 2 ^ d)
-power-split c zero = rw (add-zero, pow-succ' 2 c) (omega arith)
-power-split c (suc d) = rw (add-suc c d, pow-succ' 2 (suc (c + d)), power-split c d, pow-succ' 2 d) (omega arith)
-
--- the bits of a byte made of bits are those it was made of
-pub bit-bits : (n : ℕ) (p : ℕ → Bool) (c : ℕ) → c < n → bitOf (bitsBelow n p) c ≡ p c
-unfolding bitsBelow
-bit-bits zero p c h = absurd (omega arith)
-bit-bits (suc n) p c h = by (ℕ-discrete c n) (bit-bits n p c)
-  where
-    by : Dec (c ≡ n) → (c < n → bitOf (bitsBelow n p) c ≡ p c) → bitOf (bitsBelow n p + cond (p n) (2 ^ n) 0) c ≡ p c
-    by (yes e) more = rw e (top-bit (bitsBelow n p) (2 ^ n) (p n) (bits-lt n p))
-    by (no e) more =
-        let h : n ≡ suc (c + (n - suc c)) = omega arith in
-        let q : 2 ^ n ≡ 2 ^ c * (2 * 2 ^ (n - suc c)) = ap (λ (k : ℕ). 2 ^ k) h ∙ power-split c (n - suc c) in
-        rw q (ap (λ (y : ℕ). eqb y 1) (below-bit (bitsBelow n p) (2 ^ c) (2 ^ (n - suc c)) (p n) (one-le-pow c 2 (omega arith))) ∙ more (omega arith))
 
 -- ---- what a call's answer is
 
@@ -81,15 +44,6 @@ fresh-accepted drop pickup e = by (settingsSound (settingsOf drop pickup)) e
 pub fresh-is : (drop pickup : List ℕ) → settingsSound (settingsOf drop pickup) ≡ true → freshOf drop pickup ≡ record { relay = freshRelay (settingsOf drop pickup); number = 0 }
 unfolding freshOf freshRefusal
 fresh-is drop pickup e = rw e
-
--- an accepted frame has six codes in range
-pub input-codes : (codes : List ℕ) (enable : ℕ) → inputRefusal codes enable ≡ 0 → codesSound codes ≡ true
-unfolding inputRefusal
-input-codes codes enable e = by (codesSound codes) e
-  where
-    by : (b : Bool) → cond {A = ℕ} (not b) 3 (cond (bitOf enable 7) 4 0) ≡ 0 → b ≡ true
-    by true e = refl
-    by false e = absurd (omega arith)
 
 -- on a sound relay codes, enable byte and mask alone decide
 pub frame-accepted : (r : Relay) (codes : List ℕ) (enable : ℕ) → soundOf r ≡ true → inputRefusal codes enable ≡ 0 → frameOf r codes enable ≡ acceptedFrame r codes enable
@@ -125,27 +79,6 @@ reset-channel r mask c h = getD-table 6 (resetChannel r mask) noChannel c h
 
 -- ---- soundness of a channel
 
--- a list whose elements pass a test, with one of them replaced by another that passes it
-set-sound : (p : ℤ → Bool) (l : List ℤ) (i k : ℕ) (x d : ℤ) → p x ≡ true → p (getD l k d) ≡ true → p (getD (set l i x) k d) ≡ true
-set-sound p [] i k x d h t = t
-set-sound p (y ∷ l) zero zero x d h t = h
-set-sound p (y ∷ l) zero (suc k) x d h t = t
-set-sound p (y ∷ l) (suc i) zero x d h t = t
-set-sound p (y ∷ l) (suc i) (suc k) x d h t = set-sound p l i k x d h t
-
--- "samples −512 to 511" are those of the codes 0 to 1023
-pub sample-sound : (code : ℕ) → code ≤ 1023 → sampleSound (sampleOf code) ≡ true
-sample-sound code h = by (ltb code 512) refl
-  where
-    by : (b : Bool) → ltb code 512 ≡ b → sampleSound (cond b (negsuc (512 - suc code)) (pos (code - 512))) ≡ true
-    by true q = and-true _ _ (le-leb (512 - suc code) 511 (omega arith)) refl
-    by false q = le-leb (code - 512) 511 (omega arith)
-
-pub stored-sound : (w : List ℤ) (slot code : ℕ) → windowSound w ≡ true → code ≤ 1023 → windowSound (set w slot (sampleOf code)) ≡ true
-unfolding windowSound
-stored-sound w slot code s h =
-    every-true 8 _ (λ k l. set-sound sampleSound w slot k (sampleOf code) (pos 0) (sample-sound code h) (every-at 8 _ s k l))
-
 -- a run stays within its length, and at 0 where no window meets the level
 run-le : (len run : ℕ) (counted feeds : Bool) → run ≤ len → cond counted (cond feeds (min len (suc run)) 0) run ≤ len
 run-le len run true true h = omega arith
@@ -172,7 +105,7 @@ channel-sound levels slot counted enabled code ch h s =
     let window : List ℤ = windowAfter slot code ch in
     let two : windowSound (ch .samples) && leb (ch .«loss_run») 16 ≡ true = and-left _ (overSound (levels .current) ch) s in
     and-true _ _
-    (and-true _ _ (stored-sound (ch .samples) slot code (and-left _ (leb (ch .«loss_run») 16) two) h)
+    (and-true _ _ (window-set (ch .samples) slot (sampleOf code) (and-left _ (leb (ch .«loss_run») 16) two) (sample-is-sound code h))
     (le-leb _ 16 (run-le 16 (ch .«loss_run») counted (enabled && loss levels .meets window) (leb-true _ 16 (and-right (windowSound (ch .samples)) _ two)))))
     (over-sound (levels .current) (leb (levels .pickup) (amplitudeOf window)) counted enabled (ch .«over_latch») (ch .«over_run») _ refl (and-right (windowSound (ch .samples) && leb (ch .«loss_run») 16) _ s))
 
@@ -185,30 +118,6 @@ cleared-sound current ch s = by current (and-left (windowSound (ch .samples)) _ 
     by false e = rw e
 
 -- ---- soundness of a relay
-
--- what the test of a relay says
-pub record Sound (r : Relay) : Type 0 where
-  pub settings : settingsSound (r .settings) ≡ true
-  pub age : r .age ≤ 72
-  pub slot : r .slot ≤ 7
-  pub channel : (c : ℕ) → c < 6 → channelSound (isCurrent c) (channelAt r c) ≡ true
-
-pub sound-says : (r : Relay) → soundOf r ≡ true → Sound r
-unfolding soundOf channelsSound
-sound-says r s =
-    let three : settingsSound (r .settings) && leb (r .age) 72 && leb (r .slot) 7 ≡ true = and-left _ (channelsSound (r .channels)) s in
-    let two : settingsSound (r .settings) && leb (r .age) 72 ≡ true = and-left _ (leb (r .slot) 7) three in
-    record {
-      settings = and-left _ (leb (r .age) 72) two;
-      age = leb-true (r .age) 72 (and-right (settingsSound (r .settings)) _ two);
-      slot = leb-true (r .slot) 7 (and-right (settingsSound (r .settings) && leb (r .age) 72) _ three);
-      channel = every-at 6 _ (and-right (settingsSound (r .settings) && leb (r .age) 72 && leb (r .slot) 7) _ s);
-    }
-
-pub says-sound : (r : Relay) → Sound r → soundOf r ≡ true
-unfolding soundOf channelsSound
-says-sound r s =
-    and-true _ _ (and-true _ _ (and-true _ _ (s .settings) (le-leb (r .age) 72 (s .age))) (le-leb (r .slot) 7 (s .slot))) (every-true 6 _ (s .channel))
 
 -- a fresh relay with accepted settings is sound
 pub fresh-sound : (s : Settings) → settingsSound s ≡ true → soundOf (freshRelay s) ≡ true
@@ -242,7 +151,7 @@ frame-sound r codes enable s h = says-sound (acceptedFrame r codes enable .relay
           slot = slot-le (r .slot);
           channel = λ c l. rw (frame-channel r codes enable c l)
               (channel-sound (levelsOf (r .settings) c) (r .slot) (counted r) (enabledIn enable c) (getD codes c 0) (channelAt r c)
-              (leb-true (getD codes c 0) 1023 (every-at 6 (λ (k : ℕ). leb (getD codes k 0) 1023) h c l)) (was .channel c l));
+              (code-le codes h c l) (was .channel c l));
         }
 
 pub reset-sound : (r : Relay) (mask : ℕ) → soundOf r ≡ true → soundOf (acceptedReset r mask .relay) ≡ true

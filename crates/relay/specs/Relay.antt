@@ -3,7 +3,6 @@
 use Prim.Native.Nat.{ℕ, _+_}
 use mathlib.Core.Bool.{Bool, _&&_, _||_, not, cond}
 use mathlib.Core.List.{List}
-use lib.IntN.{ℤ}
 use lib.Dec.{ltb, leb, eqb}
 use lib.ListN.{getD, replicate}
 use Rattle.phasor.specs.Each.{every, table}

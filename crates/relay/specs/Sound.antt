@@ -2,7 +2,6 @@
 -- over runs 0 to 4. A voltage has no over run and no over latch; a place kept for one must hold 0 or off." No other tie is asked.
 use mathlib.Core.Bool.{Bool, _&&_, not, cond}
 use mathlib.Core.List.{List}
-use Prim.Native.Nat.{ℕ}
 use lib.Dec.{leb, eqb}
 use lib.ListN.{getD}
 use Rattle.phasor.specs.Each.{every}

@@ -1,0 +1,17 @@
+-- `age_after` meets its contract, by its test.
+use borrow.Author.Needs.{needs}
+use borrow.Author.Tests.{lt-ltb, le-ltb}
+use Rattle.relay.proofs.steps.age_after.Statement.{statement}
+use Rattle.relay.proofs.steps.age_after.Tie as tie
+
+add-result : tie.Need-add-result
+add-result c = search needs
+
+returns : tie.Need-returns
+returns c = rw (lt-ltb _ _ (c .if1 .taken))
+
+returns-2 : tie.Need-returns-2
+returns-2 c = rw (le-ltb _ _ (c .if1 .left))
+
+pub age-after-spec : {M : Type 1} → statement M
+age-after-spec = tie.close (tie.spec add-result returns returns-2)

@@ -1,0 +1,207 @@
+// What an accepted frame and an accepted reset make of one channel, of the six windows, of the age and of the slot
+// (document 01, "Frames, runs, latches, resets").
+ghost use mathlib.Core.Path.{_≡_};
+ghost use mathlib.Core.Bool.{true, cond};
+ghost use Prim.Native.Nat.{suc, min, _≤_, _<_};
+ghost use Rattle.phasor.specs.Cordic.{amplitudeOf};
+ghost use Rattle.relay.specs.Settings.{levelsOf};
+ghost use Rattle.relay.specs.Channel.{freshChannel, clearedOf, windowAfter, channelAfter};
+ghost use Rattle.relay.specs.Relay.{codesSound, ageAfter, slotAfter};
+ghost use Rattle.relay.specs.Inside.{windowOf, windowsOf, amplitudesOf, madeOf, resetsOf};
+use crate::Channel;
+use crate::Levels;
+use crate::Made;
+use crate::Settings;
+use crate::bits::bit;
+use crate::bits::enabled_in;
+use crate::bits::with_bit;
+
+// A frame that finds this age is counted.
+pub const SETTLED: u8 = 72;
+
+// The frames of a full loss run, and of a full over run.
+pub const LOSS_FRAMES: u8 = 16;
+
+pub const OVER_FRAMES: u8 = 4;
+
+// A run after steps 2 and 3: kept in a frame that is not counted, otherwise grown up to its length where it is met, else 0.
+fn run_after(counted: bool, met: bool, run: u8, len: u8) -> u8
+    ensures { λ r. ⌜ r ≡ cond counted (cond met (min len (suc run)) 0) run ⌝ }
+{
+    if !counted {
+        return run;
+    }
+    if !met {
+        return 0;
+    }
+    if run < len { run + 1 } else { len }
+}
+
+impl Channel {
+    // "A fresh window is eight zeros"; runs 0, latches off.
+    pub(crate) fn fresh() -> Channel
+        ensures { λ r. ⌜ r ≡ freshChannel ⌝ }
+    {
+        Channel {
+            samples: [0; 8],
+            loss_run: 0,
+            over_run: 0,
+            loss_latch: false,
+            over_latch: false,
+        }
+    }
+
+    // Runs 0 and latches off where the reset names the channel; the samples stay.
+    pub(crate) fn after_reset(self, named: bool) -> Channel
+        ensures { λ r. ⌜ r ≡ cond named (clearedOf self) self ⌝ }
+    {
+        if !named {
+            return self;
+        }
+        let samples = self.samples;
+        Channel {
+            samples: samples,
+            loss_run: 0,
+            over_run: 0,
+            loss_latch: false,
+            over_latch: false,
+        }
+    }
+
+    // The window with the frame's sample in its slot.
+    fn window_after(self, slot: usize, code: u16) -> phasor::Window
+        requires { ⌜ (slot < 8) × (code ≤ 1023) ⌝ }
+        ensures { λ r. ⌜ r ≡ windowOf slot code self ⌝ }
+    {
+        let mut samples = self.samples;
+        let s = phasor::sample(code);
+        samples[slot] = s;
+        phasor::Window { samples: samples }
+    }
+
+    // Steps 1 to 4 of a frame, where m is the amplitude of the window with the frame's sample. The window is made anew: six of them handed on from
+    // the amplitudes would lie in memory, and cost a fifth of the frame.
+    pub(crate) fn after(
+        self,
+        levels: Levels,
+        slot: usize,
+        counted: bool,
+        enabled: bool,
+        code: u16,
+        m: u16,
+    ) -> Channel
+        requires { ⌜ (slot < 8) × (code ≤ 1023) × (m ≡ amplitudeOf (windowAfter slot code self)) ⌝ }
+        ensures { λ r. ⌜ r ≡ channelAfter levels slot counted enabled code self ⌝ }
+    {
+        let window = self.window_after(slot, code);
+        let samples = window.samples;
+        let below = enabled & (m < levels.drop);
+        let above = enabled & (levels.current & (levels.pickup <= m));
+        let loss = run_after(counted, below, self.loss_run, LOSS_FRAMES);
+        let over = run_after(counted, above, self.over_run, OVER_FRAMES);
+        Channel {
+            samples: samples,
+            loss_run: loss,
+            over_run: over,
+            loss_latch: self.loss_latch | (loss == LOSS_FRAMES),
+            over_latch: self.over_latch | (over == OVER_FRAMES),
+        }
+    }
+}
+
+impl Settings {
+    // The levels of one channel.
+    pub(crate) fn levels(self, c: usize) -> Levels
+        requires { ⌜ c < 6 ⌝ }
+        ensures { λ r. ⌜ r ≡ levelsOf self c ⌝ }
+    {
+        let drop = self.drop[c];
+        if c < 3 {
+            return Levels {
+                drop: drop,
+                pickup: 0,
+                current: false,
+            };
+        }
+        let pickup = self.pickup[c - 3];
+        Levels {
+            drop: drop,
+            pickup: pickup,
+            current: true,
+        }
+    }
+}
+
+// The six windows with the frame's samples in their slot.
+pub fn windows_after(channels: [Channel; 6], slot: usize, codes: [u16; 6]) -> [phasor::Window; 6]
+    requires { ⌜ (slot < 8) × (codesSound codes ≡ true) ⌝ }
+    ensures { λ r. ⌜ r ≡ windowsOf slot codes channels ⌝ }
+{
+    let mut windows = [phasor::Window { samples: [0; 8] }; 6];
+    let mut c: usize = 0;
+    while c < 6 {
+        let w = channels[c].window_after(slot, codes[c]);
+        windows[c] = w;
+        c += 1;
+    }
+    windows
+}
+
+// Steps 2 to 5 for the six channels, at the amplitudes of their windows.
+pub fn channels_after(
+    old: [Channel; 6],
+    settings: Settings,
+    slot: usize,
+    counted: bool,
+    codes: [u16; 6],
+    amplitudes: [u16; 6],
+    enable: u8,
+) -> Made
+    requires { ⌜ (slot < 8) × (codesSound codes ≡ true) × (amplitudes ≡ amplitudesOf slot codes old) ⌝ }
+    ensures { λ r. ⌜ r ≡ madeOf settings slot counted codes enable old ⌝ }
+{
+    let mut channels = old;
+    let mut output: u8 = 0;
+    let mut c: usize = 0;
+    while c < 6 {
+        let enabled = enabled_in(enable, c);
+        let levels = settings.levels(c);
+        let channel = old[c].after(levels, slot, counted, enabled, codes[c], amplitudes[c]);
+        let on = (channel.loss_latch | channel.over_latch) & enabled;
+        channels[c] = channel;
+        output = with_bit(output, c, on);
+        c += 1;
+    }
+    Made {
+        channels: channels,
+        output: output,
+    }
+}
+
+// The six channels after a reset.
+pub fn channels_reset(old: [Channel; 6], mask: u8) -> [Channel; 6]
+    ensures { λ r. ⌜ r ≡ resetsOf mask old ⌝ }
+{
+    let mut channels = old;
+    let mut c: usize = 0;
+    while c < 6 {
+        let channel = old[c].after_reset(bit(mask, c));
+        channels[c] = channel;
+        c += 1;
+    }
+    channels
+}
+
+// Step 2: the age grows by 1 up to 72.
+pub fn age_after(age: u8) -> u8
+    ensures { λ r. ⌜ r ≡ ageAfter age ⌝ }
+{
+    if age < SETTLED { age + 1 } else { age }
+}
+
+// Step 5: the slot advances, 7 back to 0.
+pub fn slot_after(slot: u8) -> u8
+    ensures { λ r. ⌜ r ≡ slotAfter slot ⌝ }
+{
+    if slot < 7 { slot + 1 } else { 0 }
+}
