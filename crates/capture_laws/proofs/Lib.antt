@@ -1,0 +1,3 @@
+pub mod RoundTrip
+pub mod Canonical
+pub mod Laws

@@ -1,0 +1,4 @@
+pub mod Excerpts
+pub mod Windows
+pub mod Laws
+pub mod Calls

@@ -1,0 +1,56 @@
+-- The loop keeps `StrongestRead`; the cases are those of Windows.
+use Prim.Native.Nat.{_-_}
+use Rattle.cells.proofs.Windows.{StrongestRead, strongest-loop}
+use borrow.Author.Needs.{needs}
+use native.Mathlib.Omega.{arith}
+use Rattle.cells.proofs.strongest_window.Statement.{statement}
+use Rattle.cells.proofs.strongest_window.Tie as tie
+
+abbrev Inv-loop : tie.InvT-loop
+Inv-loop cells channel last best₀ f₀ best f = StrongestRead cells channel best f
+
+abbrev μ-loop : tie.MeasureT-loop
+μ-loop cells channel last best₀ f₀ best f = last - f
+
+sub-last : tie.Need-sub-last Inv-loop μ-loop
+sub-last c = omega arith
+
+window-sum-requires : tie.Need-window-sum-requires Inv-loop μ-loop
+window-sum-requires c κs = (search strongest-loop, search strongest-loop)
+
+loop-holds : tie.Need-loop-holds Inv-loop μ-loop
+loop-holds c = search strongest-loop
+
+add-f : tie.Need-add-f Inv-loop μ-loop
+add-f c = omega arith
+
+window-sum-requires-2 : tie.Need-window-sum-requires-2 Inv-loop μ-loop
+window-sum-requires-2 c κs = (search strongest-loop, search strongest-loop)
+
+stronger-requires : tie.Need-stronger-requires Inv-loop μ-loop
+stronger-requires c κs = search needs
+
+loop-less : tie.Need-loop-less Inv-loop μ-loop
+loop-less c = omega arith
+
+loop-again : tie.Need-loop-again Inv-loop μ-loop
+loop-again c = search strongest-loop
+
+returns : tie.Need-returns Inv-loop μ-loop
+returns c = search strongest-loop
+
+pub strongest-window-spec : {M : Type 1} → statement M
+strongest-window-spec =
+    tie.close
+    (tie.spec
+    Inv-loop
+    μ-loop
+    sub-last
+    window-sum-requires
+    loop-holds
+    add-f
+    window-sum-requires-2
+    stronger-requires
+    loop-less
+    loop-again
+    returns)

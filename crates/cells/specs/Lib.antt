@@ -1,0 +1,3 @@
+pub mod Excerpt
+pub mod Strongest
+pub mod Steps
