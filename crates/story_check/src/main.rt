@@ -1,0 +1,70 @@
+// A story of two phases that trip, one of which is reset while the other stays tripped: a line for
+// each call. The stored output was made by a second implementation.
+use libc::STDOUT_FILENO;
+use relay::Relay;
+
+// 100, 71, 0, −71, −100, −71, 0, 71 as codes: its amplitude is 1603.
+const WAVE: [u16; 8] = [612, 583, 512, 441, 412, 441, 512, 583];
+
+const FRAMES: u16 = 130;
+
+// Channel 3 is disabled for four frames.
+fn enable_in(n: u16) -> u8 {
+    if n < 100 {
+        return 127;
+    }
+    if n < 104 {
+        return 119;
+    }
+    127
+}
+
+// Frame n with the wave on channels 3 and 4: its line, as in the bench program.
+fn show_frame(relay: Relay, n: u16) -> Relay {
+    let code = WAVE[(n % 8) as usize];
+    let answer = relay.frame([512, 512, 512, code, code, 512], enable_in(n));
+    let amplitudes = answer.amplitudes;
+    let mut line = [0u8; 45];
+    let m = text::put_frame_line(&mut line, 0, n, amplitudes, answer.output);
+    io::write_all(STDOUT_FILENO, &line[..m]);
+    answer.relay
+}
+
+// A reset: its mask and the number that it answers.
+fn show_reset(relay: Relay, mask: u8) -> Relay {
+    let answer = relay.reset(mask);
+    io::write_all(STDOUT_FILENO, b"reset ");
+    io::print_decimal(STDOUT_FILENO, mask as u64);
+    io::write_all(STDOUT_FILENO, b" answers ");
+    io::print_decimal(STDOUT_FILENO, answer.number as u64);
+    io::write_all(STDOUT_FILENO, b"\n");
+    answer.relay
+}
+
+// The reset that follows frame n: channel 3, one that is refused, none, all.
+fn reset_after(relay: Relay, n: u16) -> Relay {
+    if n == 79 {
+        return show_reset(relay, 8);
+    }
+    if n == 90 {
+        return show_reset(relay, 72);
+    }
+    if n == 95 {
+        return show_reset(relay, 0);
+    }
+    if n == 110 {
+        return show_reset(relay, 63);
+    }
+    relay
+}
+
+fn main() {
+    let made = Relay::fresh([1; 6], [1603; 3]);
+    let mut relay = made.relay;
+    let mut n: u16 = 0;
+    while n < FRAMES {
+        let seen = show_frame(relay, n);
+        relay = reset_after(seen, n);
+        n += 1;
+    }
+}
