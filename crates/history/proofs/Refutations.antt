@@ -5,10 +5,10 @@ use native.Mathlib.Decide.{decLe}
 use native.Mathlib.Omega.{arith}
 use mathlib.Core.Path.{_≡_, refl, sym, ap, ap₂, _∙_, subst}
 use mathlib.Core.Logic.{_↔_, inl}
-use mathlib.Core.Bool.{true, false}
+use mathlib.Core.Bool.{Bool, true, false, cond}
 use mathlib.Core.List.{List, [], _∷_, _++_, append-nil}
 use lib.IntN.{ℤ, pos, _+ℤ_, _-ℤ_}
-use lib.Dec.{T, leb→le}
+use lib.Dec.{T, leb→le, eqb}
 use lib.ListN.{getD, set, replicate}
 use borrow.Author.Tests.{le-ltb}
 use Rattle.phasor.specs.Each.{every, table}
@@ -21,23 +21,24 @@ use Rattle.phasor.proofs.Each.{getD-table}
 use Rattle.relay.specs.declared.Channel.{Channel}
 use Rattle.relay.specs.declared.Relay.{Relay}
 use Rattle.relay.specs.declared.FrameAnswer.{FrameAnswer}
+use Rattle.relay.specs.declared.ResetAnswer.{ResetAnswer}
 use Rattle.relay.specs.Bits.{bitOf}
 use Rattle.relay.specs.Settings.{dropsSound, pickupsSound}
 use Rattle.relay.specs.Channel.{noChannel}
-use Rattle.relay.specs.Relay.{channelAt, freshRefusal, freshOf, amplitudeIn, codesSound, inputRefusal, frameOf, maskRefusal, resetOf}
+use Rattle.relay.specs.Relay.{channelAt, zeroRelay, freshOf, amplitudeIn, codesSound, inputRefusal, frameOf, maskRefusal, resetOf}
 use Rattle.history.specs.Calls.{Codes, Call, frame, reset, Device, theRelay}
 use Rattle.history.specs.Stories.{story, windowOf, windowAt, LatchOn}
-use Rattle.history.specs.Demand.{framesIn, lossOf, relayAfter, RelayIs, FrameAnswered, Demanded}
-use Rattle.history.specs.WrongRelays.{Wrong, neverTrips, unaltered, fixedAmplitude, fixedLatches, restartsAge, ignoresEnable, oneTooMany, refusesAll}
+use Rattle.history.specs.Demand.{framesIn, lossOf, relayAfter, RelayIs, FrameAnswered, AcceptedSettings, Demanded}
+use Rattle.history.specs.WrongRelays.{EachFrame, EachReset, FixedLatches, Wrong, neverTrips, unaltered, fixedAmplitude, fixedLatches, restartsAge, ignoresEnable, oneTooMany, refusesAll}
 use Rattle.history.proofs.Figures.{ones, still, frames512, quiet, latchAfter, figures, limits}
 use Rattle.history.proofs.Relay.{frames-frame, after-end}
 use Rattle.history.proofs.Theorem.{demand3}
 
 -- ---- what demand 3 says of any device that meets it, under levels that are all 1
 
-accepted : freshOf (ones 6) (ones 3) .number ≡ 0
-unfolding freshOf freshRefusal dropsSound pickupsSound every
-accepted = refl
+in-range : AcceptedSettings (ones 6) (ones 3)
+unfolding dropsSound pickupsSound every
+in-range = refl
 
 taken : inputRefusal (replicate 6 512) 127 ≡ 0
 unfolding inputRefusal codesSound every
@@ -45,11 +46,11 @@ taken = refl
 
 module _ (d : Device) (meets : Demanded d) where
   relay-is : (calls : List Call) → RelayIs d (ones 6) (ones 3) calls
-  relay-is calls = meets (ones 6) (ones 3) accepted calls .relay calls [] (sym (append-nil calls))
+  relay-is calls = meets (ones 6) (ones 3) in-range calls .relay calls [] (sym (append-nil calls))
 
   frame-is : (past : List Call) (codes : Codes) (enable : ℕ) → inputRefusal (codes .list) enable ≡ 0
       → FrameAnswered d (ones 6) (ones 3) past (past ++ (frame codes enable ∷ [])) enable (d .frame (relayAfter d (ones 6) (ones 3) past) (codes .list) enable)
-  frame-is past codes enable e = meets (ones 6) (ones 3) accepted (past ++ (frame codes enable ∷ [])) .answers past (frame codes enable) [] refl .0 e
+  frame-is past codes enable e = meets (ones 6) (ones 3) in-range (past ++ (frame codes enable ∷ [])) .answers past (frame codes enable) [] refl .0 e
 
   latch-is : (calls : List Call) → T (latchAfter d calls) ↔ LatchOn (lossOf (ones 6) (ones 3) 0) (story 0 calls)
   latch-is calls = relay-is calls .lossLatch 0 (omega arith)
@@ -66,13 +67,13 @@ off-too d meets calls off t = subst T off (latch-is theRelay demand3 calls .1 (l
 
 -- ---- the refutations
 
-never-trips : (d : Device) → ((r : Relay) (codes : List ℕ) (enable : ℕ) → d .frame r codes enable .output ≡ 0) → ¬ Demanded d
+never-trips : (d : Device) → EachFrame d (λ r codes enable. d .frame r codes enable .output ≡ 0) → ¬ Demanded d
 never-trips d wrong meets =
-    subst (λ (output : ℕ). T (bitOf output 0)) (wrong _ _ _) (frame-is d meets (quiet 87) (still 512) 127 taken .output 0 (omega arith) .1 (inl on-at-87, tt))
+    subst (λ (output : ℕ). T (bitOf output 0)) (wrong (ones 6) (ones 3) in-range (quiet 87) (still 512) 127 taken) (frame-is d meets (quiet 87) (still 512) 127 taken .output 0 (omega arith) .1 (inl on-at-87, tt))
 
-stays : (d : Device) → ((r : Relay) (codes : List ℕ) (enable : ℕ) → d .frame r codes enable .relay ≡ r) → ¬ Demanded d
+stays : (d : Device) → EachFrame d (λ r codes enable. d .frame r codes enable .relay ≡ r) → ¬ Demanded d
 stays d wrong meets =
-    let same : relayAfter d (ones 6) (ones 3) (quiet 1) .age ≡ relayAfter d (ones 6) (ones 3) (quiet 0) .age = ap (λ (r : Relay). r .age) (wrong _ _ _) in
+    let same : relayAfter d (ones 6) (ones 3) (quiet 1) .age ≡ relayAfter d (ones 6) (ones 3) (quiet 0) .age = ap (λ (r : Relay). r .age) (wrong (ones 6) (ones 3) in-range [] (still 512) 127 taken) in
     let frames : framesIn (quiet 1) ≡ 1 = frames-frame [] (still 512) 127 taken in
     omega (arith, relay-is d meets (quiet 0) .age, relay-is d meets (quiet 1) .age)
 
@@ -94,53 +95,56 @@ no-number m low high =
     omega (arith, leb→le (m - 2) 2 (between (first 512) (pos (m - 2)) (pos 2) least none .le))
 
 fixed-amplitude : (d : Device) (m : ℕ)
-    → ((r : Relay) (codes : List ℕ) (enable : ℕ) → inputRefusal codes enable ≡ 0 → d .frame r codes enable .amplitudes ≡ replicate 6 m) → ¬ Demanded d
+    → EachFrame d (λ r codes enable. d .frame r codes enable .amplitudes ≡ replicate 6 m) → ¬ Demanded d
 fixed-amplitude d m wrong meets = no-number m (within 512 taken) (within 1023 (limits .0))
   where
     within : (code : ℕ) → inputRefusal (replicate 6 code) 127 ≡ 0 → Within (first code) m
-    within code e = subst (λ (l : List ℕ). Within (first code) (getD l 0 0)) (wrong _ _ _ e) (frame-is d meets [] (still code) 127 e .within 0 (omega arith))
+    within code e = subst (λ (l : List ℕ). Within (first code) (getD l 0 0)) (wrong (ones 6) (ones 3) in-range [] (still code) 127 e) (frame-is d meets [] (still code) 127 e .within 0 (omega arith))
 
 quiet-frames : (n : ℕ) → framesIn (quiet n) ≡ n
 quiet-frames zero = refl
 quiet-frames (suc n) = frames-frame (quiet n) (still 512) 127 taken ∙ ap suc (quiet-frames n)
 
-fixed-latches : (d : Device)
-    → ((drop pickup : List ℕ) (past : List Call) (codes : Codes) (enable c : ℕ) → c < 6 → 73 ≤ framesIn past
-    → channelAt (relayAfter d drop pickup (past ++ (frame codes enable ∷ []))) c .«loss_latch» ≡ channelAt (relayAfter d drop pickup past) c .«loss_latch»)
-    → ¬ Demanded d
-fixed-latches d wrong meets = off-too d meets (quiet 73) (figures .at72) (subst T (repeated 88 (omega arith)) (on-too d meets))
+fixed-latches : (d : Device) → FixedLatches d → ¬ Demanded d
+fixed-latches d wrong meets = off-too d meets (quiet 73) (figures .at72) (subst T (repeated 87 (omega arith)) (on-too d meets))
   where
-    repeated : (n : ℕ) → 73 ≤ n → latchAfter d (quiet n) ≡ latchAfter d (quiet 73)
+    repeated : (n : ℕ) → 72 ≤ n → latchAfter d (quiet (suc n)) ≡ latchAfter d (quiet 73)
     repeated zero h = absurd (omega arith)
-    repeated (suc n) h = by (decLe 73 n) (repeated n)
+    repeated (suc n) h = by (decLe 72 n) (repeated n)
       where
-        by : Dec (73 ≤ n) → (73 ≤ n → latchAfter d (quiet n) ≡ latchAfter d (quiet 73)) → latchAfter d (quiet (suc n)) ≡ latchAfter d (quiet 73)
-        by (yes l) more = wrong (ones 6) (ones 3) (quiet n) (still 512) 127 0 (omega arith) (rw (quiet-frames n) l) ∙ more l
-        by (no l) more = ap (λ (k : ℕ). latchAfter d (quiet k)) (let e : suc n ≡ 73 = omega arith in e)
+        by : Dec (72 ≤ n) → (72 ≤ n → latchAfter d (quiet (suc n)) ≡ latchAfter d (quiet 73)) → latchAfter d (quiet (suc (suc n))) ≡ latchAfter d (quiet 73)
+        by (yes l) more =
+            ap (λ (r : Relay). channelAt r 0 .«loss_latch») (after-end d (d .fresh (ones 6) (ones 3) .relay) (quiet (suc n)) (frame (still 512) 127))
+            ∙ wrong (ones 6) (ones 3) in-range (quiet n) (still 512) (still 512) 127 127 taken taken (rw (quiet-frames n) l) 0 (omega arith) ∙ more l
+        by (no l) more = ap (λ (k : ℕ). latchAfter d (quiet (suc k))) (let e : suc n ≡ 72 = omega arith in e)
 
-restarts-age : (d : Device) → ((r : Relay) (mask : ℕ) → d .reset r mask .relay .age ≡ 0) → ¬ Demanded d
+restarts-age : (d : Device) → EachReset d (λ r mask. d .reset r mask .relay .age ≡ 0) → ¬ Demanded d
 unfolding maskRefusal inputRefusal codesSound every
-restarts-age d wrong meets = omega (arith, relay-is d meets (quiet 1 ++ (reset 0 ∷ [])) .age, wrong (relayAfter d (ones 6) (ones 3) (quiet 1)) 0)
+restarts-age d wrong meets = omega (arith, relay-is d meets (quiet 1 ++ (reset 0 ∷ [])) .age, wrong (ones 6) (ones 3) in-range (quiet 1) 0 refl)
 
-ignores-enable : (d : Device) → ((r : Relay) (codes : List ℕ) (enable : ℕ) → d .frame r codes enable .relay ≡ d .frame r codes 127 .relay) → ¬ Demanded d
+off : inputRefusal (replicate 6 512) 0 ≡ 0
+unfolding inputRefusal codesSound every
+off = refl
+
+ignores-enable : (d : Device) → EachFrame d (λ r codes enable. d .frame r codes enable .relay ≡ d .frame r codes 127 .relay) → ¬ Demanded d
 ignores-enable d wrong meets =
     off-too d meets (frames512 0 88) (figures .disabled) (subst (λ (r : Relay). T (channelAt r 0 .«loss_latch»)) (sym (same 88)) (on-too d meets))
   where
     same : (n : ℕ) → relayAfter d (ones 6) (ones 3) (frames512 0 n) ≡ relayAfter d (ones 6) (ones 3) (quiet n)
     same zero = refl
     same (suc n) =
-        after-end d (d .fresh (ones 6) (ones 3) .relay) (frames512 0 n) (frame (still 512) 0) ∙ wrong _ _ _
+        after-end d (d .fresh (ones 6) (ones 3) .relay) (frames512 0 n) (frame (still 512) 0) ∙ wrong (ones 6) (ones 3) in-range (frames512 0 n) (still 512) 0 off
         ∙ ap (λ (r : Relay). d .frame r (replicate 6 512) 127 .relay) (same n) ∙ sym (after-end d (d .fresh (ones 6) (ones 3) .relay) (quiet n) (frame (still 512) 127))
 
 one-too-many : (d : Device)
-    → ((r : Relay) (codes : List ℕ) (enable c : ℕ) → c < 6 → inputRefusal codes enable ≡ 0 → getD (d .frame r codes enable .amplitudes) c 0 ≡ suc (amplitudeIn r codes c))
+    → EachFrame d (λ r codes enable. (c : ℕ) → c < 6 → getD (d .frame r codes enable .amplitudes) c 0 ≡ suc (amplitudeIn r codes c))
     → ¬ Demanded d
 unfolding amplitudeIn windowOf table inputRefusal codesSound every
 one-too-many d wrong meets =
     let fresh : RelayIs d (ones 6) (ones 3) [] = relay-is d meets [] in
     let same : amplitudeIn (relayAfter d (ones 6) (ones 3) []) (replicate 6 512) 0 ≡ amplitudeOf (first 512) =
     ap₂ (λ (w : List ℤ) (k : ℕ). amplitudeOf (set w k (pos 0))) (fresh .samples 0 (omega arith)) (fresh .slot) in
-    omega (arith, same, wrong (relayAfter d (ones 6) (ones 3) []) (replicate 6 512) 127 0 (omega arith) taken, frame-is d meets [] (still 512) 127 taken .amplitude 0 (omega arith))
+    omega (arith, same, wrong (ones 6) (ones 3) in-range [] (still 512) 127 taken 0 (omega arith), frame-is d meets [] (still 512) 127 taken .amplitude 0 (omega arith))
 
 pub refuted : (d : Device) → Wrong d → ¬ Demanded d
 refuted d (neverTrips wrong) = never-trips d wrong
@@ -150,21 +154,26 @@ refuted d (fixedLatches wrong) = fixed-latches d wrong
 refuted d (restartsAge wrong) = restarts-age d wrong
 refuted d (ignoresEnable wrong) = ignores-enable d wrong
 refuted d (oneTooMany wrong) = one-too-many d wrong
-refuted d (refusesAll wrong) = λ meets. wrong (ones 6) (ones 3) (meets (ones 6) (ones 3) accepted [] .made)
+refuted d (refusesAll wrong) = λ meets. wrong (ones 6) (ones 3) in-range (meets (ones 6) (ones 3) in-range [] .made)
 
--- ---- there are such relays: ours, with one thing of a frame's answer changed
+-- ---- there are such relays: ours, with one thing changed in what accepted calls answer; a refused call answers as it should
 
-abbrev changed : (Relay → FrameAnswer → FrameAnswer) → Device
-changed f = record { fresh = freshOf; frame = λ r codes enable. f r (frameOf r codes enable); reset = resetOf }
+abbrev changed : (Relay → List ℕ → ℕ → FrameAnswer → FrameAnswer) → Device
+changed f =
+    record {
+      fresh = freshOf;
+      frame = λ r codes enable. cond (eqb (inputRefusal codes enable) 0) (f r codes enable (frameOf r codes enable)) (frameOf r codes enable);
+      reset = resetOf;
+    }
 
 abbrev muted : Device
-muted = changed (λ r a. record { relay = a .relay; number = a .number; amplitudes = a .amplitudes; output = 0 })
+muted = changed (λ r codes enable a. record { relay = a .relay; number = a .number; amplitudes = a .amplitudes; output = 0 })
 
 abbrev stuck : Device
-stuck = changed (λ r a. record { relay = r; number = a .number; amplitudes = a .amplitudes; output = a .output })
+stuck = changed (λ r codes enable a. record { relay = r; number = a .number; amplitudes = a .amplitudes; output = a .output })
 
 abbrev constant : ℕ → Device
-constant m = changed (λ r a. record { relay = a .relay; number = a .number; amplitudes = replicate 6 m; output = a .output })
+constant m = changed (λ r codes enable a. record { relay = a .relay; number = a .number; amplitudes = replicate 6 m; output = a .output })
 
 -- the latches as the frame found them: up to the first counted frame no run is full, so these are the ones it would fix
 abbrev relatched : Channel → Channel → Channel
@@ -175,7 +184,7 @@ abbrev frozenAt : Relay → FrameAnswer → ℕ → Channel
 frozenAt r a c = relatched (channelAt r c) (channelAt (a .relay) c)
 
 abbrev frozen : Device
-frozen = changed (λ r a.
+frozen = changed (λ r codes enable a.
     record {
       relay = record {
         channels = table 6 (frozenAt r a);
@@ -188,13 +197,72 @@ frozen = changed (λ r a.
       output = a .output;
     })
 
-pub wrong-ones : Wrong muted × Wrong stuck × ((m : ℕ) → Wrong (constant m)) × Wrong frozen
+-- age 0 after an accepted reset
+abbrev restarted : Device
+restarted =
+    record {
+      fresh = freshOf;
+      frame = frameOf;
+      reset = λ r mask. cond {A = ResetAnswer} (eqb (maskRefusal mask) 0)
+          (record {
+            relay = record { channels = resetOf r mask .relay .channels; age = 0; slot = r .slot; settings = r .settings };
+            number = resetOf r mask .number;
+          })
+          (resetOf r mask);
+    }
+
+-- each accepted frame as if all were enabled
+abbrev enabling : Device
+enabling = changed (λ r codes enable a. frameOf r codes 127)
+
+abbrev oneMore : Relay → List ℕ → ℕ → ℕ
+oneMore r codes c = suc (amplitudeIn r codes c)
+
+abbrev increased : Device
+increased = changed (λ r codes enable a. record { relay = a .relay; number = a .number; amplitudes = table 6 (oneMore r codes); output = a .output })
+
+abbrev refusing : Device
+refusing = record { fresh = λ drop pickup. record { relay = zeroRelay; number = 1 }; frame = frameOf; reset = resetOf }
+
+either : (b : Bool) (a : FrameAnswer) → cond b a a ≡ a
+either true a = refl
+either false a = refl
+
+-- one device of each kind
+pub record WrongOnes : Type 0 where
+  pub never-trips : Wrong muted
+  pub unaltered-one : Wrong stuck
+  pub one-amplitude : (m : ℕ) → Wrong (constant m)
+  pub frozen-latches : Wrong frozen
+  pub age-restarted : Wrong restarted
+  pub enable-ignored : Wrong enabling
+  pub one-more : Wrong increased
+  pub all-refused : Wrong refusing
+
+pub wrong-ones : WrongOnes
 wrong-ones =
-    (neverTrips (λ r codes enable. refl), unaltered (λ r codes enable. refl), λ m. fixedAmplitude m (λ r codes enable e. refl), fixedLatches frozen-latches)
+    record {
+      never-trips = neverTrips (λ drop pickup ok past codes enable e. rw e);
+      unaltered-one = unaltered (λ drop pickup ok past codes enable e. rw e);
+      one-amplitude = λ m. fixedAmplitude m (λ drop pickup ok past codes enable e. rw e);
+      frozen-latches = fixedLatches frozen-so;
+      age-restarted = restartsAge (λ drop pickup ok past mask e. rw e);
+      enable-ignored = ignoresEnable enabling-so;
+      one-more = oneTooMany more-so;
+      all-refused = refusesAll (λ drop pickup ok e. absurd (omega arith));
+    }
   where
-    frozen-latches : (drop pickup : List ℕ) (past : List Call) (codes : Codes) (enable c : ℕ) → c < 6 → 73 ≤ framesIn past
-        → channelAt (relayAfter frozen drop pickup (past ++ (frame codes enable ∷ []))) c .«loss_latch» ≡ channelAt (relayAfter frozen drop pickup past) c .«loss_latch»
-    frozen-latches drop pickup past codes enable c h k =
-        ap (λ (r : Relay). channelAt r c .«loss_latch») (after-end frozen (freshOf drop pickup .relay) past (frame codes enable))
-        ∙ ap (λ (ch : Channel). ch .«loss_latch»)
-        (getD-table 6 (frozenAt (relayAfter frozen drop pickup past) (frameOf (relayAfter frozen drop pickup past) (codes .list) enable)) noChannel c h)
+    frozen-so : FixedLatches frozen
+    frozen-so drop pickup ok past one two enableOne enableTwo e k h c l =
+        let r : Relay = relayAfter frozen drop pickup (past ++ (frame one enableOne ∷ [])) in
+        rw k (ap (λ (ch : Channel). ch .«loss_latch») (getD-table 6 (frozenAt r (frameOf r (two .list) enableTwo)) noChannel c l))
+
+    enabling-so : EachFrame enabling (λ r codes enable. enabling .frame r codes enable .relay ≡ enabling .frame r codes 127 .relay)
+    enabling-so drop pickup ok past codes enable e =
+        let r : Relay = relayAfter enabling drop pickup past in
+        rw e (sym (ap (λ (a : FrameAnswer). a .relay) (either (eqb (inputRefusal (codes .list) 127) 0) (frameOf r (codes .list) 127))))
+
+    more-so : EachFrame increased (λ r codes enable. (c : ℕ) → c < 6 → getD (increased .frame r codes enable .amplitudes) c 0 ≡ suc (amplitudeIn r codes c))
+    more-so drop pickup ok past codes enable e c l =
+        let r : Relay = relayAfter increased drop pickup past in
+        rw e (getD-table 6 (oneMore r (codes .list)) 0 c l)

@@ -11,17 +11,17 @@ use lib.ListN.{getD}
 use borrow.Author.Tests.{ltb-true, ltb-false, ne-eqb}
 use Rattle.relay.specs.declared.Relay.{Relay}
 use Rattle.relay.specs.Bits.{bitOf}
-use Rattle.relay.specs.Settings.{settingsOf, settingsSound}
+use Rattle.relay.specs.Settings.{settingsOf, levelsOf}
 use Rattle.relay.specs.Channel.{clearedOf}
 use Rattle.relay.specs.Sound.{soundOf}
-use Rattle.relay.specs.Relay.{channelAt, freshRelay, freshOf, ageAfter, slotAfter, nextChannel, acceptedFrame, refusedFrame}
+use Rattle.relay.specs.Relay.{channelAt, freshRelay, ageAfter, slotAfter, nextChannel, acceptedFrame, refusedFrame}
 use Rattle.relay.specs.Relay.{inputRefusal, frameOf, resetChannel, acceptedReset, refusedReset, maskRefusal, resetOf}
-use Rattle.relay.proofs.Laws.{fresh-accepted, fresh-is, fresh-sound, fresh-channel, frame-accepted, frame-refused}
+use Rattle.relay.proofs.Laws.{fresh-is, fresh-sound, fresh-channel, frame-accepted, frame-refused}
 use Rattle.relay.proofs.Sound.{input-codes}
 use Rattle.relay.proofs.Laws.{frame-sound, frame-channel, reset-accepted, reset-refused, reset-sound, reset-channel}
 use Rattle.history.specs.Calls.{Codes, Call, frame, reset, refusal, accepted, Device, theRelay, handedBack, after}
 use Rattle.history.specs.Stories.{Event, sampled, cleared, inputOf, eventsOf, story, frames}
-use Rattle.history.specs.Demand.{framesIn, levels, relayAfter}
+use Rattle.history.specs.Demand.{framesIn, levels, relayAfter, AcceptedSettings}
 use Rattle.history.proofs.Story.{_▷_, frames-sampled, inputs-cleared}
 use Rattle.history.proofs.Channel.{ChannelIs, channel-fresh, channel-cleared, channel-sampled}
 
@@ -95,7 +95,7 @@ module _ (drop pickup : List ℕ) where
     pub slot : r .slot ≡ framesIn calls % 8
     pub channel : (c : ℕ) → c < 6 → ChannelIs (levels drop pickup c) (story c calls) (channelAt r c)
 
-  fresh-is-so : settingsSound (settingsOf drop pickup) ≡ true → Is [] (freshRelay (settingsOf drop pickup))
+  fresh-is-so : AcceptedSettings drop pickup → Is [] (freshRelay (settingsOf drop pickup))
   unfolding freshRelay
   fresh-is-so e =
       record {
@@ -108,7 +108,7 @@ module _ (drop pickup : List ℕ) where
 
   pub frame-is : (calls : List Call) (r : Relay) (codes : Codes) (enable : ℕ) → inputRefusal (codes .list) enable ≡ 0 → Is calls r
       → Is (calls ++ (frame codes enable ∷ [])) (acceptedFrame r (codes .list) enable .relay)
-  unfolding acceptedFrame nextChannel
+  unfolding acceptedFrame nextChannel levelsOf
   frame-is calls r codes enable e v =
       record {
         sound = frame-sound r (codes .list) enable (v .sound) (input-codes (codes .list) enable e);
@@ -165,8 +165,8 @@ module _ (drop pickup : List ℕ) where
   from past (call ∷ calls) r v =
       rw (← append-assoc past (call ∷ []) calls) (from (past ++ (call ∷ [])) calls (handedBack theRelay r call) (call-is past r call (ℕ-discrete (refusal call) 0) v))
 
-  pub relay-is : freshOf drop pickup .number ≡ 0 → (calls : List Call) → Is calls (relayAfter theRelay drop pickup calls)
-  relay-is e calls = rw (fresh-is drop pickup (fresh-accepted drop pickup e)) (from [] calls (freshRelay (settingsOf drop pickup)) (fresh-is-so (fresh-accepted drop pickup e)))
+  pub relay-is : AcceptedSettings drop pickup → (calls : List Call) → Is calls (relayAfter theRelay drop pickup calls)
+  relay-is e calls = rw (fresh-is drop pickup e) (from [] calls (freshRelay (settingsOf drop pickup)) (fresh-is-so e))
 
 -- one call more
 pub after-end : (d : Device) (r : Relay) (past : List Call) (call : Call) → after d r (past ++ (call ∷ [])) ≡ handedBack d (after d r past) call

@@ -15,17 +15,18 @@ use Rattle.phasor.proofs.Theorems.{accurate, over-clear, over-near, loss-clear,
 use Rattle.phasor.proofs.Each.{length-table, getD-table}
 use Rattle.relay.specs.declared.Channel.{Channel}
 use Rattle.relay.specs.declared.Relay.{Relay}
+use Rattle.relay.specs.declared.FreshAnswer.{FreshAnswer}
 use Rattle.relay.specs.declared.ResetAnswer.{ResetAnswer}
 use Rattle.relay.specs.Bits.{bitOf, enabledIn}
-use Rattle.relay.specs.Settings.{Kind, levelsOf}
+use Rattle.relay.specs.Settings.{Kind}
 use Rattle.relay.specs.Channel.{windowAfter, channelAfter}
 use Rattle.relay.specs.Relay.{channelAt, freshOf, nextChannel, amplitudeIn, outputIn, acceptedFrame, inputRefusal, frameOf, acceptedReset}
 use Rattle.relay.proofs.Output.{bits-lt, bit-bits}
-use Rattle.relay.proofs.Laws.{frame-accepted, frame-refused, frame-channel, reset-accepted, reset-refused}
+use Rattle.relay.proofs.Laws.{fresh-accepted, fresh-is, frame-accepted, frame-refused, frame-channel, reset-accepted, reset-refused}
 use Rattle.history.specs.Calls.{Codes, Call, frame, reset, theRelay}
 use Rattle.history.specs.Stories.{inputOf, story, frames, windowOf, windowAt, resets, resetsBefore, FullRun, FullRunMeeting, LatchOn}
 use Rattle.history.specs.Demand.{framesIn, ClearlyBelow, BarelyBelow, ClearlyOver, BarelyOver, Margins, levels}
-use Rattle.history.specs.Demand.{lossOf, overOf, relayAfter, RelayIs, FrameAnswered, Answered, Demanded}
+use Rattle.history.specs.Demand.{lossOf, overOf, relayAfter, RelayIs, FrameAnswered, Answered, Demand3, AcceptedSettings, Demanded}
 use Rattle.history.proofs.Channel.{and-both, and-right, RunIs, ChannelIs, loss-rule, over-rule, went-on, ends-here}
 use Rattle.history.proofs.Relay.{Is, relay-is, frame-is, story-frame, frames-same, frames-frame}
 use Rattle.history.proofs.Windows.{window-sound}
@@ -36,12 +37,12 @@ output-rule true b e p q = (λ t. (inl (p .0 tt), t), λ t. t .1)
 output-rule false true e p q = (λ t. (inr (q .0 tt), t), λ t. t .1)
 output-rule false false e p q = (λ t. absurd t, λ t. ⊎-elim (λ u. absurd (p .1 u)) (λ u. absurd (q .1 u)) (t .0))
 
-module _ (drop pickup : List ℕ) (fresh : freshOf drop pickup .number ≡ 0) where
+module _ (drop pickup : List ℕ) (settings : AcceptedSettings drop pickup) where
   abbrev relay : List Call → Relay
   relay calls = relayAfter theRelay drop pickup calls
 
   is : (calls : List Call) → Is drop pickup calls (relay calls)
-  is calls = relay-is drop pickup fresh calls
+  is calls = relay-is drop pickup settings calls
 
   relay-clause : (calls : List Call) → RelayIs theRelay drop pickup calls
   relay-clause calls =
@@ -116,7 +117,6 @@ module _ (drop pickup : List ℕ) (fresh : freshOf drop pickup .number ≡ 0) wh
     over-margins : (c : ℕ) → 3 ≤ c → c < 6
         → Margins (overOf drop pickup c) (ClearlyOver (levels drop pickup c .pickup)) (BarelyOver (levels drop pickup c .pickup))
         (story c calls) (channelAt (relay past) c .«over_latch») (channelAt (relay calls) c .«over_latch»)
-    unfolding levelsOf
     over-margins c current h =
         margins c h (overOf drop pickup c) (omega arith) (ClearlyOver (levels drop pickup c .pickup)) (BarelyOver (levels drop pickup c .pickup))
         (λ w s z. and-both (leb 3 c) _ (le→leb 3 c current) (le→leb (levels drop pickup c .pickup) (amplitudeOf w) (over-clear w s (levels drop pickup c .pickup) z)))
@@ -146,11 +146,15 @@ module _ (drop pickup : List ℕ) (fresh : freshOf drop pickup .number ≡ 0) wh
   answered past (reset mask) =
       (λ e. ap (λ (a : ResetAnswer). a .number) (reset-accepted (relay past) mask (is past .sound) e), reset-refused (relay past) mask (is past .sound))
 
--- DEMAND 3
+-- Demand 3
 pub demand3 : Demanded theRelay
-demand3 drop pickup fresh calls =
+demand3 drop pickup settings calls =
     record {
-      made = fresh;
-      relay = λ past rest e. relay-clause drop pickup fresh past;
-      answers = λ past call rest e. answered drop pickup fresh past call;
+      made = ap (λ (a : FreshAnswer). a .number) (fresh-is drop pickup settings);
+      relay = λ past rest e. relay-clause drop pickup settings past;
+      answers = λ past call rest e. answered drop pickup settings past call;
     }
+
+-- the same where making the relay answered 0
+pub demand3-made : (drop pickup : List ℕ) → freshOf drop pickup .number ≡ 0 → (calls : List Call) → Demand3 theRelay drop pickup calls
+demand3-made drop pickup made = demand3 drop pickup (fresh-accepted drop pickup made)

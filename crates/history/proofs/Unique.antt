@@ -14,9 +14,9 @@ use borrow.Author.Tests.{eqb-true, eqb-false}
 use Rattle.relay.specs.declared.Relay.{Relay}
 use Rattle.relay.specs.declared.FrameAnswer.{FrameAnswer}
 use Rattle.relay.specs.Bits.{bitOf}
-use Rattle.relay.specs.Relay.{channelAt, freshOf, inputRefusal, refusedFrame, maskRefusal, refusedReset}
+use Rattle.relay.specs.Relay.{channelAt, inputRefusal, refusedFrame, maskRefusal, refusedReset}
 use Rattle.history.specs.Calls.{Codes, Call, frame, reset, Device, theRelay}
-use Rattle.history.specs.Demand.{relayAfter, RelayIs, Answered, Demanded}
+use Rattle.history.specs.Demand.{relayAfter, RelayIs, Answered, AcceptedSettings, Demanded}
 use Rattle.history.proofs.Theorem.{demand3}
 
 -- all of two relays but their runs
@@ -60,7 +60,7 @@ same-bits (suc n) x y h k e =
     (λ c l. half-bit x c ∙ e (suc c) (omega arith) ∙ sym (half-bit y c)) in
     omega (arith, low-bit x y (e 0 (omega arith)))
 
-module _ (d : Device) (meets : Demanded d) (drop pickup : List ℕ) (fresh : freshOf drop pickup .number ≡ 0) where
+module _ (d : Device) (meets : Demanded d) (drop pickup : List ℕ) (settings : AcceptedSettings drop pickup) where
   pub same-relay : (calls : List Call) → SameButRuns (relayAfter d drop pickup calls) (relayAfter theRelay drop pickup calls)
   same-relay calls =
       record {
@@ -73,10 +73,10 @@ module _ (d : Device) (meets : Demanded d) (drop pickup : List ℕ) (fresh : fre
       }
     where
       theirs : RelayIs d drop pickup calls
-      theirs = meets drop pickup fresh calls .relay calls [] (sym (append-nil calls))
+      theirs = meets drop pickup settings calls .relay calls [] (sym (append-nil calls))
 
       ours : RelayIs theRelay drop pickup calls
-      ours = demand3 drop pickup fresh calls .relay calls [] (sym (append-nil calls))
+      ours = demand3 drop pickup settings calls .relay calls [] (sym (append-nil calls))
 
   pub same-frame : (past : List Call) (codes : Codes) (enable : ℕ)
       → SameAnswer (d .frame (relayAfter d drop pickup past) (codes .list) enable) (theRelay .frame (relayAfter theRelay drop pickup past) (codes .list) enable)
@@ -84,10 +84,10 @@ module _ (d : Device) (meets : Demanded d) (drop pickup : List ℕ) (fresh : fre
   same-frame past codes enable = by (ℕ-discrete (inputRefusal (codes .list) enable) 0)
     where
       theirs : Answered d drop pickup past (frame codes enable)
-      theirs = meets drop pickup fresh (past ++ (frame codes enable ∷ [])) .answers past (frame codes enable) [] refl
+      theirs = meets drop pickup settings (past ++ (frame codes enable ∷ [])) .answers past (frame codes enable) [] refl
 
       ours : Answered theRelay drop pickup past (frame codes enable)
-      ours = demand3 drop pickup fresh (past ++ (frame codes enable ∷ [])) .answers past (frame codes enable) [] refl
+      ours = demand3 drop pickup settings (past ++ (frame codes enable ∷ [])) .answers past (frame codes enable) [] refl
 
       by : Dec (inputRefusal (codes .list) enable ≡ 0)
           → SameAnswer (d .frame (relayAfter d drop pickup past) (codes .list) enable) (theRelay .frame (relayAfter theRelay drop pickup past) (codes .list) enable)
@@ -106,10 +106,10 @@ module _ (d : Device) (meets : Demanded d) (drop pickup : List ℕ) (fresh : fre
   same-reset past mask = by (ℕ-discrete (maskRefusal mask) 0)
     where
       theirs : Answered d drop pickup past (reset mask)
-      theirs = meets drop pickup fresh (past ++ (reset mask ∷ [])) .answers past (reset mask) [] refl
+      theirs = meets drop pickup settings (past ++ (reset mask ∷ [])) .answers past (reset mask) [] refl
 
       ours : Answered theRelay drop pickup past (reset mask)
-      ours = demand3 drop pickup fresh (past ++ (reset mask ∷ [])) .answers past (reset mask) [] refl
+      ours = demand3 drop pickup settings (past ++ (reset mask ∷ [])) .answers past (reset mask) [] refl
 
       by : Dec (maskRefusal mask ≡ 0) → d .reset (relayAfter d drop pickup past) mask .number ≡ theRelay .reset (relayAfter theRelay drop pickup past) mask .number
       by (yes e) = theirs .0 e ∙ sym (ours .0 e)

@@ -1,12 +1,12 @@
 -- Demand 3 of document 01: one claim about every list of frames and resets, refused ones among them, from a fresh relay.
 -- It is stated for any device; `Demanded theRelay` is the theorem. Rests on the history read from the calls and on the exact amplitude.
-use Prim.Native.Nat.{ℕ, _+_, _%_, _≤_, _<_, min}
+use Prim.Native.Nat.{ℕ, _+_, _-_, _%_, _≤_, _<_, min}
 use mathlib.Core.Path.{_≡_}
 use mathlib.Core.Logic.{_⊎_, _↔_}
-use mathlib.Core.Bool.{Bool, true}
+use mathlib.Core.Bool.{Bool, true, cond}
 use mathlib.Core.List.{List, [], _∷_, _++_}
 use lib.IntN.{ℤ, pos, _+ℤ_, _-ℤ_}
-use lib.Dec.{T}
+use lib.Dec.{T, leb}
 use lib.ListN.{length, getD}
 use Rattle.phasor.specs.Cordic.{amplitudeOf}
 use Rattle.phasor.specs.Exact.{AtLeast, Below, Within}
@@ -15,9 +15,9 @@ use Rattle.relay.specs.declared.Relay.{Relay}
 use Rattle.relay.specs.declared.FrameAnswer.{FrameAnswer}
 use Rattle.relay.specs.declared.ResetAnswer.{ResetAnswer}
 use Rattle.relay.specs.Bits.{bitOf, enabledIn}
-use Rattle.relay.specs.Settings.{Kind, settingsOf, levelsOf, loss, over}
+use Rattle.relay.specs.Settings.{Kind, settingsOf, settingsSound, loss, over}
 use Rattle.relay.specs.Sound.{soundOf}
-use Rattle.relay.specs.Relay.{channelAt, freshOf, refusedFrame, refusedReset, inputRefusal, maskRefusal}
+use Rattle.relay.specs.Relay.{channelAt, refusedFrame, refusedReset, inputRefusal, maskRefusal}
 use Rattle.history.specs.Calls.{Call, frame, reset, Device, after}
 use Rattle.history.specs.Stories.{Event, story, frames, windowOf, windowAt, InEach, FullRun, LatchOn}
 
@@ -46,10 +46,11 @@ pub record Margins (kind : Kind) (Clearly Barely : List ℤ → Type 0) (es : Li
   pub near : ¬ T before → T now
       → (j : ℕ) × (j + kind .len ≡ frames es) × FullRun es (kind .len) j × InEach j (kind .len) (λ n. Barely (windowAt es n))
 
--- a channel's levels, and its two kinds of run under them; a voltage's over run never meets its level
+-- A channel's levels, "a drop level for each channel and a pickup level for each current" (3, 4, 5), and its two kinds of run under them; a
+-- voltage's over run never meets its level. Read from the settings as handed in, not through the relay's own definitions.
 module _ (drop pickup : List ℕ) (c : ℕ) where
   abbrev pub levels : Levels
-  levels = levelsOf (settingsOf drop pickup) c
+  levels = record { drop = getD drop c 0; pickup = cond (leb 3 c) (getD pickup (c - 3) 0) 0; current = leb 3 c }
 
   abbrev pub lossOf : Kind
   lossOf = loss levels
@@ -110,11 +111,17 @@ module _ (d : Device) (drop pickup : List ℕ) where
 
   -- Demand 3, "a single claim about a whole list": the relay after each part of it from the start, and the answer of each call in it.
   pub record Demand3 (calls : List Call) : Type 0 where
+    -- the settings are accepted
     pub made : d .fresh drop pickup .number ≡ 0
     pub relay : (past rest : List Call) → calls ≡ past ++ rest → RelayIs past
     pub answers : (past : List Call) (call : Call) (rest : List Call) → calls ≡ past ++ (call ∷ rest) → Answered past call
 
--- Demand 3: "from a fresh relay made with accepted settings", every list, "the empty one too". The code's arrays hold six and three levels, and
--- its bytes are below 256; the claim is for whatever lists of levels making a relay accepts, and for any number in a byte's place.
+-- the settings that document 01 accepts: nine levels, each "1 to 10,700"
+abbrev pub AcceptedSettings : List ℕ → List ℕ → Type 0
+AcceptedSettings drop pickup = settingsSound (settingsOf drop pickup) ≡ true
+
+-- Demand 3: "from a fresh relay made with accepted settings", every list, "the empty one too"; that making the relay accepts them is part of it.
+-- The code's arrays hold six and three levels, and its bytes are below 256; the claim is for any lists that hold at least these levels, and for
+-- any number in a byte's place.
 abbrev pub Demanded : Device → Type 0
-Demanded d = (drop pickup : List ℕ) → freshOf drop pickup .number ≡ 0 → (calls : List Call) → Demand3 d drop pickup calls
+Demanded d = (drop pickup : List ℕ) → AcceptedSettings drop pickup → (calls : List Call) → Demand3 d drop pickup calls

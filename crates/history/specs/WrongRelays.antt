@@ -1,32 +1,48 @@
 -- Wrong relays: those that document 01 names under "What a promise says here", 3, two of its "Mistakes to keep out", and two more. Each is
--- said of any device by the one thing that it does wrong, whatever else it does. None meets demand 3. Rests on the lists of calls.
+-- said of any device by the one thing that it does wrong to accepted calls, in lists from a relay made with accepted settings, whatever else it
+-- does. None meets demand 3. Rests on the lists of calls.
 use Prim.Native.Nat.{ℕ, suc, _≤_, _<_}
 use mathlib.Core.Path.{_≡_}
 use mathlib.Core.List.{List, [], _∷_, _++_}
 use lib.ListN.{getD, replicate}
 use Rattle.relay.specs.declared.Relay.{Relay}
-use Rattle.relay.specs.Relay.{channelAt, amplitudeIn, inputRefusal}
+use Rattle.relay.specs.Relay.{channelAt, amplitudeIn, inputRefusal, maskRefusal}
 use Rattle.history.specs.Calls.{Codes, Call, frame, Device}
-use Rattle.history.specs.Demand.{framesIn, relayAfter}
+use Rattle.history.specs.Demand.{framesIn, relayAfter, AcceptedSettings}
+
+-- P holds of each accepted frame in these lists: of the relay that it is given, its codes and its enable byte
+abbrev pub EachFrame : Device → (Relay → List ℕ → ℕ → Type 0) → Type 0
+EachFrame d P = (drop pickup : List ℕ) → AcceptedSettings drop pickup → (past : List Call) (codes : Codes) (enable : ℕ)
+    → inputRefusal (codes .list) enable ≡ 0 → P (relayAfter d drop pickup past) (codes .list) enable
+
+-- and the same of each accepted reset: of the relay that it is given and its mask
+abbrev pub EachReset : Device → (Relay → ℕ → Type 0) → Type 0
+EachReset d P = (drop pickup : List ℕ) → AcceptedSettings drop pickup → (past : List Call) (mask : ℕ) → maskRefusal mask ≡ 0 → P (relayAfter d drop pickup past) mask
+
+-- the loss latches are the same in two relays
+abbrev pub SameLatches : Relay → Relay → Type 0
+SameLatches r s = (c : ℕ) → c < 6 → channelAt r c .«loss_latch» ≡ channelAt s c .«loss_latch»
+
+-- of two successive accepted frames, the first of them counted, the second leaves the loss latches as the first handed them back
+abbrev pub FixedLatches : Device → Type 0
+FixedLatches d = (drop pickup : List ℕ) → AcceptedSettings drop pickup → (past : List Call) (one two : Codes) (enableOne enableTwo : ℕ)
+    → inputRefusal (one .list) enableOne ≡ 0 → inputRefusal (two .list) enableTwo ≡ 0 → 72 ≤ framesIn past
+    → SameLatches (d .frame (relayAfter d drop pickup (past ++ (frame one enableOne ∷ []))) (two .list) enableTwo .relay) (relayAfter d drop pickup (past ++ (frame one enableOne ∷ [])))
 
 pub data Wrong (d : Device) : Type 0 where
   -- "a relay that never trips"
-  neverTrips : ((r : Relay) (codes : List ℕ) (enable : ℕ) → d .frame r codes enable .output ≡ 0) → Wrong d
+  neverTrips : EachFrame d (λ r codes enable. d .frame r codes enable .output ≡ 0) → Wrong d
   -- "or hands itself back unaltered"
-  unaltered : ((r : Relay) (codes : List ℕ) (enable : ℕ) → d .frame r codes enable .relay ≡ r) → Wrong d
+  unaltered : EachFrame d (λ r codes enable. d .frame r codes enable .relay ≡ r) → Wrong d
   -- "one fixed amplitude"
-  fixedAmplitude : (m : ℕ) → ((r : Relay) (codes : List ℕ) (enable : ℕ) → inputRefusal codes enable ≡ 0 → d .frame r codes enable .amplitudes ≡ replicate 6 m)
-      → Wrong d
-  -- "one that fixes its latches at the first counted frame and afterwards only repeats them": once frame 72 came, no frame alters a loss latch
-  fixedLatches : ((drop pickup : List ℕ) (past : List Call) (codes : Codes) (enable c : ℕ) → c < 6 → 73 ≤ framesIn past
-      → channelAt (relayAfter d drop pickup (past ++ (frame codes enable ∷ []))) c .«loss_latch» ≡ channelAt (relayAfter d drop pickup past) c .«loss_latch»)
-      → Wrong d
+  fixedAmplitude : (m : ℕ) → EachFrame d (λ r codes enable. d .frame r codes enable .amplitudes ≡ replicate 6 m) → Wrong d
+  -- "one that fixes its latches at the first counted frame and afterwards only repeats them", whatever its resets do
+  fixedLatches : FixedLatches d → Wrong d
   -- "restarting age at a reset"
-  restartsAge : ((r : Relay) (mask : ℕ) → d .reset r mask .relay .age ≡ 0) → Wrong d
+  restartsAge : EachReset d (λ r mask. d .reset r mask .relay .age ≡ 0) → Wrong d
   -- "growing a run over a disabled frame": the enable byte makes no difference to the relay handed back
-  ignoresEnable : ((r : Relay) (codes : List ℕ) (enable : ℕ) → d .frame r codes enable .relay ≡ d .frame r codes 127 .relay) → Wrong d
+  ignoresEnable : EachFrame d (λ r codes enable. d .frame r codes enable .relay ≡ d .frame r codes 127 .relay) → Wrong d
   -- m + 1 in place of each m: close to Z, and yet not "the six m"
-  oneTooMany : ((r : Relay) (codes : List ℕ) (enable c : ℕ) → c < 6 → inputRefusal codes enable ≡ 0
-      → getD (d .frame r codes enable .amplitudes) c 0 ≡ suc (amplitudeIn r codes c)) → Wrong d
+  oneTooMany : EachFrame d (λ r codes enable. (c : ℕ) → c < 6 → getD (d .frame r codes enable .amplitudes) c 0 ≡ suc (amplitudeIn r codes c)) → Wrong d
   -- no fresh relay at all
-  refusesAll : ((drop pickup : List ℕ) → ¬ (d .fresh drop pickup .number ≡ 0)) → Wrong d
+  refusesAll : ((drop pickup : List ℕ) → AcceptedSettings drop pickup → ¬ (d .fresh drop pickup .number ≡ 0)) → Wrong d

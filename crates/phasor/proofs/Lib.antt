@@ -1,4 +1,5 @@
 pub mod Each
+pub mod Figures
 pub mod Samples
 pub mod Weights
 pub mod Rule

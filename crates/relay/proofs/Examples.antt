@@ -1,5 +1,5 @@
 -- Calls of the definitions, computed: the bench figures 75, 87 and 86, the worked example of the bench program, and one call for each rule and
--- refusal. They pin the definitions: a wrong definition is refused here even where the code is changed with it. Rests on nothing but them.
+-- refusal. They show each rule and refusal at one place; they do not make a wrong definition impossible. Rests on the definitions alone.
 use Prim.Native.Nat.{ℕ, zero, suc}
 use mathlib.Core.Path.{_≡_, refl}
 use mathlib.Core.Bool.{Bool, true, false}
@@ -7,6 +7,7 @@ use mathlib.Core.List.{List, [], _∷_, _++_, map}
 use lib.IntN.{pos}
 use lib.ListN.{replicate}
 use Rattle.relay.specs.declared.Channel.{Channel}
+use Rattle.relay.specs.declared.Levels.{Levels}
 use Rattle.relay.specs.declared.Settings.{Settings}
 use Rattle.relay.specs.declared.Relay.{Relay}
 use Rattle.relay.specs.declared.FrameAnswer.{FrameAnswer}
@@ -44,6 +45,10 @@ outputs r (codes ∷ more) =
 -- equal drop levels and equal pickup levels
 abbrev levels : ℕ → ℕ → Settings
 levels drop pickup = settingsOf (replicate 6 drop) (replicate 3 pickup)
+
+-- the levels of one channel
+abbrev own : ℕ → ℕ → Bool → Levels
+own drop pickup current = record { drop = drop; pickup = pickup; current = current }
 
 -- a channel with a window of zeros
 abbrev channel : ℕ → ℕ → Bool → Bool → Channel
@@ -87,7 +92,11 @@ pub record Examples : Type 0 where
   -- a fresh relay, at the ends of "1 to 10,700"; refusal 1 with the all-zero relay
   fresh : freshOf (replicate 6 1) (replicate 3 10700) ≡ record { relay = record { channels = still; age = 0; slot = 0; settings = levels 1 10700 }; number = 0 }
   drop-low : freshOf (0 ∷ replicate 5 1) (replicate 3 1) ≡ record { relay = record { channels = still; age = 0; slot = 0; settings = levels 0 0 }; number = 1 }
-  pickup-high : freshOf (replicate 6 1) (1 ∷ 1 ∷ 10701 ∷ []) .number ≡ 1
+  drop-last : freshOf (replicate 5 1 ++ (10701 ∷ [])) (replicate 3 1) .number ≡ 1
+  pickup-high : freshOf (replicate 6 1) (10701 ∷ 1 ∷ 1 ∷ []) .number ≡ 1
+  pickup-last : freshOf (replicate 6 1) (1 ∷ 1 ∷ 0 ∷ []) .number ≡ 1
+  -- "a drop level for each channel and a pickup level for each current": each channel has its own
+  own-levels : table 6 (levelsOf (settingsOf (1 ∷ 2 ∷ 3 ∷ 4 ∷ 5 ∷ 6 ∷ []) (7 ∷ 8 ∷ 9 ∷ []))) ≡ own 1 0 false ∷ own 2 0 false ∷ own 3 0 false ∷ own 4 7 true ∷ own 5 8 true ∷ own 6 9 true ∷ []
   -- the bench program's example, amplitudes 400 0 0 0 0 0: the sample goes to slot 0, the slot advances and age is 1
   first : frameOf (relay 0 0 still) (612 ∷ replicate 5 512) 127 ≡ record {
     relay = relay 1 1 (struck 0 0 false ∷ replicate 5 (channel 0 0 false false));
@@ -119,6 +128,7 @@ pub record Examples : Type 0 where
   device-off : frameOf tripped quiet 63 ≡ accepted (relay 72 0 (replicate 6 (channel 0 0 true false))) 0
   -- a reset clears the channels that it names and nothing else, and age stays 72; mask 0 is accepted; bits 6 and 7 are refused
   resets : resetOf tripped 5 ≡ reset (relay 72 7 (channel 0 0 false false ∷ channel 16 0 true false ∷ channel 0 0 false false ∷ replicate 3 (channel 16 0 true false))) 0
+  resets-over : resetOf (relay 72 7 (replicate 3 (channel 0 0 false false) ++ replicate 3 (channel 16 4 true true))) 16 ≡ reset (relay 72 7 (replicate 3 (channel 0 0 false false) ++ (channel 16 4 true true ∷ channel 0 0 false false ∷ channel 16 4 true true ∷ []))) 0
   resets-none : resetOf tripped 0 ≡ reset tripped 0
   bad-mask : resetOf tripped 64 ≡ reset tripped 5
   bad-mask-7 : resetOf tripped 129 ≡ reset tripped 5
@@ -142,7 +152,10 @@ examples = record {
   figures = refl;
   fresh = refl;
   drop-low = refl;
+  drop-last = refl;
   pickup-high = refl;
+  pickup-last = refl;
+  own-levels = refl;
   first = refl;
   not-counted = refl;
   grows = refl;
@@ -151,6 +164,7 @@ examples = record {
   disabled = refl;
   device-off = refl;
   resets = refl;
+  resets-over = refl;
   resets-none = refl;
   bad-mask = refl;
   bad-mask-7 = refl;

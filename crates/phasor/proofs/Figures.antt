@@ -1,0 +1,39 @@
+-- The starred amplitude figures of document 01, "Bench figures", computed on the definitions. They pin what the distance to Z leaves open: the
+-- steps, the shift, the factor and the weights to the last digit. Rests on the definitions alone.
+use mathlib.Core.Path.{_≡_, refl}
+use mathlib.Core.List.{List, [], _∷_}
+use lib.ListN.{replicate}
+use lib.IntN.{ℤ, pos, negℤ}
+use Rattle.phasor.specs.Fourier.{cosines, sines, sumOver, re, im}
+use Rattle.phasor.specs.Cordic.{stepAt, steps, startOf, lastX, scaledOf, amplitudeOf}
+
+-- "eight zero samples", "eight samples 100"
+abbrev pub zeros : List ℤ
+zeros = replicate 8 (pos 0)
+
+abbrev pub hundreds : List ℤ
+hundreds = replicate 8 (pos 100)
+
+-- "100, 71, 0, −71, −100, −71, 0, 71 from slot 0"
+abbrev pub wave : List ℤ
+wave = pos 100 ∷ pos 71 ∷ pos 0 ∷ negℤ (pos 71) ∷ negℤ (pos 100) ∷ negℤ (pos 71) ∷ pos 0 ∷ pos 71 ∷ []
+
+-- "100 in slot 0, else zero", "100 in slot 1"
+abbrev pub inSlot0 : List ℤ
+inSlot0 = pos 100 ∷ replicate 7 (pos 0)
+
+abbrev pub inSlot1 : List ℤ
+inSlot1 = pos 0 ∷ pos 100 ∷ replicate 6 (pos 0)
+
+pub record Figures : Type 0 where
+  pub x-slot1 : lastX inSlot1 ≡ pos 2697998
+  pub x-slot0 : lastX inSlot0 ≡ pos 2698056
+  pub m-slot0 : amplitudeOf inSlot0 ≡ 400
+  pub m-slot1 : amplitudeOf inSlot1 ≡ 399
+  pub m-zeros : amplitudeOf zeros ≡ 0
+  pub m-hundreds : amplitudeOf hundreds ≡ 0
+  pub m-wave : amplitudeOf wave ≡ 1603
+
+pub figures : Figures
+unfolding cosines sines sumOver re im stepAt steps startOf lastX scaledOf amplitudeOf
+figures = record { x-slot1 = refl; x-slot0 = refl; m-slot0 = refl; m-slot1 = refl; m-zeros = refl; m-hundreds = refl; m-wave = refl }
