@@ -1,5 +1,5 @@
--- One channel and its own story: after each event its window is the history's, and each of its two latches is on exactly by the rule.
--- One argument serves both kinds of run, over the kind's length and test. Rests on Runs and Story.
+-- One channel and its own history: after each event its window is the history's, and each of its two latches is on exactly by the rule.
+-- One argument serves both kinds of run, over the kind's length and test. Rests on Runs and History.
 use Prim.Native.Nat.{ℕ, zero, suc, _+_, _-_, _%_, _≤_, _<_, min}
 use native.Mathlib.Decide.{decLe}
 use native.Mathlib.Omega.{arith}
@@ -17,11 +17,11 @@ use Rattle.relay.specs.declared.Channel.{Channel}
 use Rattle.relay.specs.declared.Levels.{Levels}
 use Rattle.relay.specs.Settings.{Kind, loss, over}
 use Rattle.relay.specs.Channel.{freshChannel, clearedOf, nextRun, nextLatch, channelAfter}
-use Rattle.history.specs.Stories.{Input, Event, sampled, cleared, frames, resets, resetsBefore, windowOf}
-use Rattle.history.specs.Stories.{windowAt, Counted, Enabled, InRun, FullRun, FullRunMeeting, LatchOn}
+use Rattle.history.specs.History.{Input, Event, sampled, cleared, frames, resets, resetsBefore, windowOf}
+use Rattle.history.specs.History.{windowAt, Counted, Enabled, InRun, FullRun, FullRunMeeting, LatchOn}
 use Rattle.history.proofs.Runs.{Streak, FullAt, Full, no-streak, no-full, hit-streak, full-back, latch-frame}
-use Rattle.history.proofs.Story.{_▷_, frames-sampled, inputs-cleared, input-append, input-last, resets-sampled, resets-cleared}
-use Rattle.history.proofs.Story.{before-append, before-last, before-le, window-append, window-cleared, window-sampled}
+use Rattle.history.proofs.History.{_▷_, frames-sampled, inputs-cleared, input-append, input-last, resets-sampled, resets-cleared}
+use Rattle.history.proofs.History.{before-append, before-last, before-le, window-append, window-cleared, window-sampled}
 
 T-true : {b : Bool} → b ≡ true → T b
 T-true e = subst T (sym e) tt
@@ -132,21 +132,21 @@ module _ (kind : Kind) where
 
     -- the run after it, by the two tests that settle it: the frame is counted, and it is enabled with a window that meets the level
     run-after : (age run : ℕ) (counted feeds : Bool) → age ≡ min 72 (frames es) → leb 72 age ≡ counted
-        → (i .own && i .device && kind .meets (windowAt (es ▷ sampled i) (frames es))) ≡ feeds
+        → (i .channelBit && i .bit6 && kind .meets (windowAt (es ▷ sampled i) (frames es))) ≡ feeds
         → Streak (kind .len) (frames es) run (Live es)
         → Streak (kind .len) (suc (frames es)) (cond counted (cond feeds (min (kind .len) (suc run)) 0) run) (Live (es ▷ sampled i))
     run-after age run true true e q r s =
         hit-streak (kind .len) (frames es) (Live es) (Live (es ▷ sampled i)) live-same run s
         (record {
           counted = omega (arith, leb-true 72 age q);
-          enabled = rw input-last (and-left (i .own && i .device) _ (T-true r));
-          meets = and-right (i .own && i .device) _ (T-true r);
+          enabled = rw input-last (and-left (i .channelBit && i .bit6) _ (T-true r));
+          meets = and-right (i .channelBit && i .bit6) _ (T-true r);
           afterLastReset = before-last es i ∙ sym (resets-sampled es i);
         })
     run-after age run true false e q r s = miss (λ b. rw r at (both (rw input-last at (b .enabled)) (b .meets)))
       where
-        both : T (i .own && i .device) → T (kind .meets (windowAt (es ▷ sampled i) (frames es))) → T (i .own && i .device && kind .meets (windowAt (es ▷ sampled i) (frames es)))
-        both = and-both (i .own && i .device) (kind .meets (windowAt (es ▷ sampled i) (frames es)))
+        both : T (i .channelBit && i .bit6) → T (kind .meets (windowAt (es ▷ sampled i) (frames es))) → T (i .channelBit && i .bit6 && kind .meets (windowAt (es ▷ sampled i) (frames es)))
+        both = and-both (i .channelBit && i .bit6) (kind .meets (windowAt (es ▷ sampled i) (frames es)))
     run-after age run false feeds e q r s = rw (idle run s) (miss (λ b. early (b .counted)))
       where
         early : ¬ Counted (es ▷ sampled i) (frames es)
@@ -160,8 +160,8 @@ module _ (kind : Kind) where
 
     pub run-sampled : 0 < kind .len → (age run : ℕ) (latch : Bool) (window : List ℤ) → age ≡ min 72 (frames es)
         → window ≡ windowAt (es ▷ sampled i) (frames es) → RunIs es run latch
-        → RunIs (es ▷ sampled i) (nextRun kind (leb 72 age) (i .own && i .device) window run)
-        (nextLatch kind (nextRun kind (leb 72 age) (i .own && i .device) window run) latch)
+        → RunIs (es ▷ sampled i) (nextRun kind (leb 72 age) (i .channelBit && i .bit6) window run)
+        (nextLatch kind (nextRun kind (leb 72 age) (i .channelBit && i .bit6) window run) latch)
     unfolding nextRun
     run-sampled some age run latch window e w r =
         record {
@@ -169,7 +169,7 @@ module _ (kind : Kind) where
           on = rw frames-sampled (latch-frame (kind .len) (frames es) (Live es) (Live (es ▷ sampled i)) live-same _ latch some streak (r .on));
         }
       where
-        streak : Streak (kind .len) (suc (frames es)) (nextRun kind (leb 72 age) (i .own && i .device) window run) (Live (es ▷ sampled i))
+        streak : Streak (kind .len) (suc (frames es)) (nextRun kind (leb 72 age) (i .channelBit && i .bit6) window run) (Live (es ▷ sampled i))
         streak = rw w (run-after age run _ _ e refl refl (r .streak))
 
     -- where the latch went on in the frame, a full run that meets its level ends there
@@ -220,12 +220,12 @@ channel-cleared levels es ch v =
       overRun = run-cleared (over levels) (omega arith) es;
     }
 
-pub channel-sampled : (levels : Levels) (es : List Event) (ch : Channel) (age slot code : ℕ) (own device : Bool)
+pub channel-sampled : (levels : Levels) (es : List Event) (ch : Channel) (age slot code : ℕ) (channelBit bit6 : Bool)
     → age ≡ min 72 (frames es) → slot ≡ frames es % 8 → ChannelIs levels es ch
-    → ChannelIs levels (es ▷ sampled (record { sample = sampleOf code; own = own; device = device }))
-    (channelAfter levels slot (leb 72 age) (own && device) code ch)
+    → ChannelIs levels (es ▷ sampled (record { sample = sampleOf code; channelBit = channelBit; bit6 = bit6 }))
+    (channelAfter levels slot (leb 72 age) (channelBit && bit6) code ch)
 unfolding channelAfter
-channel-sampled levels es ch age slot code own device a s v =
+channel-sampled levels es ch age slot code channelBit bit6 a s v =
     record {
       samples = window ∙ rw frames-sampled;
       lossRun = run-sampled (loss levels) es i (omega arith) age (ch .«loss_run») (ch .«loss_latch») _ a window (v .lossRun);
@@ -233,7 +233,7 @@ channel-sampled levels es ch age slot code own device a s v =
     }
   where
     i : Input
-    i = record { sample = sampleOf code; own = own; device = device }
+    i = record { sample = sampleOf code; channelBit = channelBit; bit6 = bit6 }
 
     window : set (ch .samples) slot (sampleOf code) ≡ windowAt (es ▷ sampled i) (frames es)
     window = ap₂ (λ (w : List ℤ) (k : ℕ). set w k (sampleOf code)) (v .samples) s ∙ window-sampled es i

@@ -14,7 +14,7 @@ use Rattle.relay.specs.Settings.{levelsOf, dropsSound, pickupsSound}
 use Rattle.relay.specs.Channel.{freshChannel, nextRun, channelAfter}
 use Rattle.relay.specs.Sound.{channelSound, channelsSound, soundOf}
 use Rattle.relay.specs.Relay.{channelAt, freshRelay, freshRefusal, freshOf, nextChannel, amplitudeIn, outputIn, acceptedFrame, codesSound, inputRefusal, frameRefusal, frameOf, maskRefusal}
-use Rattle.history.specs.Calls.{Codes, Call, frame, Device, theRelay}
+use Rattle.history.specs.Calls.{Codes, Call, frame, Implementation, theRelay}
 use Rattle.history.specs.Demand.{relayAfter}
 
 abbrev pub ones : ℕ → List ℕ
@@ -33,7 +33,7 @@ abbrev pub quiet : ℕ → List Call
 quiet n = frames512 127 n
 
 -- channel 0's loss latch, every level 1
-abbrev pub latchAfter : Device → List Call → Bool
+abbrev pub latchAfter : Implementation → List Call → Bool
 latchAfter d calls = channelAt (relayAfter d (ones 6) (ones 3) calls) 0 .«loss_latch»
 
 -- n frames of the wave 100, 71, 0, −71, −100, −71, 0, 71 on channel 3, from slot 0

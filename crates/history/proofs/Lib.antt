@@ -3,7 +3,7 @@ pub mod Figures
 pub mod Refutations
 pub mod Relay
 pub mod Runs
-pub mod Story
+pub mod History
 pub mod Theorem
 pub mod Unique
 pub mod Windows

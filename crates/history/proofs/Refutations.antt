@@ -26,15 +26,15 @@ use Rattle.relay.specs.Bits.{bitOf}
 use Rattle.relay.specs.Settings.{dropsSound, pickupsSound}
 use Rattle.relay.specs.Channel.{noChannel}
 use Rattle.relay.specs.Relay.{channelAt, zeroRelay, freshOf, amplitudeIn, codesSound, inputRefusal, frameOf, maskRefusal, resetOf}
-use Rattle.history.specs.Calls.{Codes, Call, frame, reset, Device, theRelay}
-use Rattle.history.specs.Stories.{story, windowOf, windowAt, LatchOn}
-use Rattle.history.specs.Demand.{framesIn, lossOf, relayAfter, RelayIs, FrameAnswered, AcceptedSettings, Demanded}
+use Rattle.history.specs.Calls.{Codes, Call, frame, reset, framesIn, Implementation, theRelay}
+use Rattle.history.specs.History.{channelHistory, windowOf, windowAt, LatchOn}
+use Rattle.history.specs.Demand.{lossOf, relayAfter, RelayIs, FrameAnswered, AcceptedSettings, Demanded}
 use Rattle.history.specs.WrongRelays.{EachFrame, EachReset, FixedLatches, Wrong, neverTrips, unaltered, fixedAmplitude, fixedLatches, restartsAge, ignoresEnable, oneTooMany, refusesAll}
 use Rattle.history.proofs.Figures.{ones, still, frames512, quiet, latchAfter, figures, limits}
 use Rattle.history.proofs.Relay.{frames-frame, after-end}
 use Rattle.history.proofs.Theorem.{demand3}
 
--- ---- what demand 3 says of any device that meets it, under levels that are all 1
+-- ---- what demand 3 says of any implementation that meets it, under levels that are all 1
 
 in-range : AcceptedSettings (ones 6) (ones 3)
 unfolding dropsSound pickupsSound every
@@ -44,7 +44,7 @@ taken : inputRefusal (replicate 6 512) 127 ≡ 0
 unfolding inputRefusal codesSound every
 taken = refl
 
-module _ (d : Device) (meets : Demanded d) where
+module _ (d : Implementation) (meets : Demanded d) where
   relay-is : (calls : List Call) → RelayIs d (ones 6) (ones 3) calls
   relay-is calls = meets (ones 6) (ones 3) in-range calls .relay calls [] (sym (append-nil calls))
 
@@ -52,26 +52,26 @@ module _ (d : Device) (meets : Demanded d) where
       → FrameAnswered d (ones 6) (ones 3) past (past ++ (frame codes enable ∷ [])) enable (d .frame (relayAfter d (ones 6) (ones 3) past) (codes .list) enable)
   frame-is past codes enable e = meets (ones 6) (ones 3) in-range (past ++ (frame codes enable ∷ [])) .answers past (frame codes enable) [] refl .0 e
 
-  latch-is : (calls : List Call) → T (latchAfter d calls) ↔ LatchOn (lossOf (ones 6) (ones 3) 0) (story 0 calls)
+  latch-is : (calls : List Call) → T (latchAfter d calls) ↔ LatchOn (lossOf (ones 6) (ones 3) 0) (channelHistory 0 calls)
   latch-is calls = relay-is calls .lossLatch 0 (omega arith)
 
--- where our relay's latch is on or off, by the rule, so is that of any such device
-on-at-87 : LatchOn (lossOf (ones 6) (ones 3) 0) (story 0 (quiet 88))
+-- where our relay's latch is on or off, by the rule, so is that of any such implementation
+on-at-87 : LatchOn (lossOf (ones 6) (ones 3) 0) (channelHistory 0 (quiet 88))
 on-at-87 = latch-is theRelay demand3 (quiet 88) .0 (subst T (sym (figures .at87)) tt)
 
-on-too : (d : Device) → Demanded d → T (latchAfter d (quiet 88))
+on-too : (d : Implementation) → Demanded d → T (latchAfter d (quiet 88))
 on-too d meets = latch-is d meets (quiet 88) .1 on-at-87
 
-off-too : (d : Device) → Demanded d → (calls : List Call) → latchAfter theRelay calls ≡ false → ¬ T (latchAfter d calls)
+off-too : (d : Implementation) → Demanded d → (calls : List Call) → latchAfter theRelay calls ≡ false → ¬ T (latchAfter d calls)
 off-too d meets calls off t = subst T off (latch-is theRelay demand3 calls .1 (latch-is d meets calls .0 t))
 
 -- ---- the refutations
 
-never-trips : (d : Device) → EachFrame d (λ r codes enable. d .frame r codes enable .output ≡ 0) → ¬ Demanded d
+never-trips : (d : Implementation) → EachFrame d (λ r codes enable. d .frame r codes enable .output ≡ 0) → ¬ Demanded d
 never-trips d wrong meets =
     subst (λ (output : ℕ). T (bitOf output 0)) (wrong (ones 6) (ones 3) in-range (quiet 87) (still 512) 127 taken) (frame-is d meets (quiet 87) (still 512) 127 taken .output 0 (omega arith) .1 (inl on-at-87, tt))
 
-stays : (d : Device) → EachFrame d (λ r codes enable. d .frame r codes enable .relay ≡ r) → ¬ Demanded d
+stays : (d : Implementation) → EachFrame d (λ r codes enable. d .frame r codes enable .relay ≡ r) → ¬ Demanded d
 stays d wrong meets =
     let same : relayAfter d (ones 6) (ones 3) (quiet 1) .age ≡ relayAfter d (ones 6) (ones 3) (quiet 0) .age = ap (λ (r : Relay). r .age) (wrong (ones 6) (ones 3) in-range [] (still 512) 127 taken) in
     let frames : framesIn (quiet 1) ≡ 1 = frames-frame [] (still 512) 127 taken in
@@ -79,7 +79,7 @@ stays d wrong meets =
 
 -- the windows of one frame of code 512, and of one of code 1023
 abbrev first : ℕ → List ℤ
-first code = windowAt (story 0 (frame (still code) 127 ∷ [])) 0
+first code = windowAt (channelHistory 0 (frame (still code) 127 ∷ [])) 0
 
 first-are : (windowSound (first 512) ≡ true) × (windowSound (first 1023) ≡ true) × (amplitudeOf (first 512) ≡ 0) × (amplitudeOf (first 1023) ≡ 2044)
 unfolding every table windowOf windowSound re im sumOver cosines sines amplitudeOf scaledOf lastX startOf steps stepAt inputRefusal codesSound
@@ -94,7 +94,7 @@ no-number m low high =
     let least : AtLeast (first 512) (pos (m - 2)) = rw (le-ltb m 2 (omega arith)) at (low .low) in
     omega (arith, leb→le (m - 2) 2 (between (first 512) (pos (m - 2)) (pos 2) least none .le))
 
-fixed-amplitude : (d : Device) (m : ℕ)
+fixed-amplitude : (d : Implementation) (m : ℕ)
     → EachFrame d (λ r codes enable. d .frame r codes enable .amplitudes ≡ replicate 6 m) → ¬ Demanded d
 fixed-amplitude d m wrong meets = no-number m (within 512 taken) (within 1023 (limits .0))
   where
@@ -105,7 +105,7 @@ quiet-frames : (n : ℕ) → framesIn (quiet n) ≡ n
 quiet-frames zero = refl
 quiet-frames (suc n) = frames-frame (quiet n) (still 512) 127 taken ∙ ap suc (quiet-frames n)
 
-fixed-latches : (d : Device) → FixedLatches d → ¬ Demanded d
+fixed-latches : (d : Implementation) → FixedLatches d → ¬ Demanded d
 fixed-latches d wrong meets = off-too d meets (quiet 73) (figures .at72) (subst T (repeated 87 (omega arith)) (on-too d meets))
   where
     repeated : (n : ℕ) → 72 ≤ n → latchAfter d (quiet (suc n)) ≡ latchAfter d (quiet 73)
@@ -118,7 +118,7 @@ fixed-latches d wrong meets = off-too d meets (quiet 73) (figures .at72) (subst 
             ∙ wrong (ones 6) (ones 3) in-range (quiet n) (still 512) (still 512) 127 127 taken taken (rw (quiet-frames n) l) 0 (omega arith) ∙ more l
         by (no l) more = ap (λ (k : ℕ). latchAfter d (quiet (suc k))) (let e : suc n ≡ 72 = omega arith in e)
 
-restarts-age : (d : Device) → EachReset d (λ r mask. d .reset r mask .relay .age ≡ 0) → ¬ Demanded d
+restarts-age : (d : Implementation) → EachReset d (λ r mask. d .reset r mask .relay .age ≡ 0) → ¬ Demanded d
 unfolding maskRefusal inputRefusal codesSound every
 restarts-age d wrong meets = omega (arith, relay-is d meets (quiet 1 ++ (reset 0 ∷ [])) .age, wrong (ones 6) (ones 3) in-range (quiet 1) 0 refl)
 
@@ -126,7 +126,7 @@ off : inputRefusal (replicate 6 512) 0 ≡ 0
 unfolding inputRefusal codesSound every
 off = refl
 
-ignores-enable : (d : Device) → EachFrame d (λ r codes enable. d .frame r codes enable .relay ≡ d .frame r codes 127 .relay) → ¬ Demanded d
+ignores-enable : (d : Implementation) → EachFrame d (λ r codes enable. d .frame r codes enable .relay ≡ d .frame r codes 127 .relay) → ¬ Demanded d
 ignores-enable d wrong meets =
     off-too d meets (frames512 0 88) (figures .disabled) (subst (λ (r : Relay). T (channelAt r 0 .«loss_latch»)) (sym (same 88)) (on-too d meets))
   where
@@ -136,7 +136,7 @@ ignores-enable d wrong meets =
         after-end d (d .fresh (ones 6) (ones 3) .relay) (frames512 0 n) (frame (still 512) 0) ∙ wrong (ones 6) (ones 3) in-range (frames512 0 n) (still 512) 0 off
         ∙ ap (λ (r : Relay). d .frame r (replicate 6 512) 127 .relay) (same n) ∙ sym (after-end d (d .fresh (ones 6) (ones 3) .relay) (quiet n) (frame (still 512) 127))
 
-one-too-many : (d : Device)
+one-too-many : (d : Implementation)
     → EachFrame d (λ r codes enable. (c : ℕ) → c < 6 → getD (d .frame r codes enable .amplitudes) c 0 ≡ suc (amplitudeIn r codes c))
     → ¬ Demanded d
 unfolding amplitudeIn windowOf table inputRefusal codesSound every
@@ -146,7 +146,7 @@ one-too-many d wrong meets =
     ap₂ (λ (w : List ℤ) (k : ℕ). amplitudeOf (set w k (pos 0))) (fresh .samples 0 (omega arith)) (fresh .slot) in
     omega (arith, same, wrong (ones 6) (ones 3) in-range [] (still 512) 127 taken 0 (omega arith), frame-is d meets [] (still 512) 127 taken .amplitude 0 (omega arith))
 
-pub refuted : (d : Device) → Wrong d → ¬ Demanded d
+pub refuted : (d : Implementation) → Wrong d → ¬ Demanded d
 refuted d (neverTrips wrong) = never-trips d wrong
 refuted d (unaltered wrong) = stays d wrong
 refuted d (fixedAmplitude m wrong) = fixed-amplitude d m wrong
@@ -158,7 +158,7 @@ refuted d (refusesAll wrong) = λ meets. wrong (ones 6) (ones 3) in-range (meets
 
 -- ---- there are such relays: ours, with one thing changed in what accepted calls answer; a refused call answers as it should
 
-abbrev changed : (Relay → List ℕ → ℕ → FrameAnswer → FrameAnswer) → Device
+abbrev changed : (Relay → List ℕ → ℕ → FrameAnswer → FrameAnswer) → Implementation
 changed f =
     record {
       fresh = freshOf;
@@ -166,13 +166,13 @@ changed f =
       reset = resetOf;
     }
 
-abbrev muted : Device
+abbrev muted : Implementation
 muted = changed (λ r codes enable a. record { relay = a .relay; number = a .number; amplitudes = a .amplitudes; output = 0 })
 
-abbrev stuck : Device
+abbrev stuck : Implementation
 stuck = changed (λ r codes enable a. record { relay = r; number = a .number; amplitudes = a .amplitudes; output = a .output })
 
-abbrev constant : ℕ → Device
+abbrev constant : ℕ → Implementation
 constant m = changed (λ r codes enable a. record { relay = a .relay; number = a .number; amplitudes = replicate 6 m; output = a .output })
 
 -- the latches as the frame found them: up to the first counted frame no run is full, so these are the ones it would fix
@@ -183,7 +183,7 @@ relatched was ch =
 abbrev frozenAt : Relay → FrameAnswer → ℕ → Channel
 frozenAt r a c = relatched (channelAt r c) (channelAt (a .relay) c)
 
-abbrev frozen : Device
+abbrev frozen : Implementation
 frozen = changed (λ r codes enable a.
     record {
       relay = record {
@@ -198,7 +198,7 @@ frozen = changed (λ r codes enable a.
     })
 
 -- age 0 after an accepted reset
-abbrev restarted : Device
+abbrev restarted : Implementation
 restarted =
     record {
       fresh = freshOf;
@@ -212,23 +212,23 @@ restarted =
     }
 
 -- each accepted frame as if all were enabled
-abbrev enabling : Device
+abbrev enabling : Implementation
 enabling = changed (λ r codes enable a. frameOf r codes 127)
 
 abbrev oneMore : Relay → List ℕ → ℕ → ℕ
 oneMore r codes c = suc (amplitudeIn r codes c)
 
-abbrev increased : Device
+abbrev increased : Implementation
 increased = changed (λ r codes enable a. record { relay = a .relay; number = a .number; amplitudes = table 6 (oneMore r codes); output = a .output })
 
-abbrev refusing : Device
+abbrev refusing : Implementation
 refusing = record { fresh = λ drop pickup. record { relay = zeroRelay; number = 1 }; frame = frameOf; reset = resetOf }
 
 either : (b : Bool) (a : FrameAnswer) → cond b a a ≡ a
 either true a = refl
 either false a = refl
 
--- one device of each kind
+-- one implementation of each kind
 pub record WrongOnes : Type 0 where
   pub never-trips : Wrong muted
   pub unaltered-one : Wrong stuck

@@ -19,57 +19,61 @@ use Rattle.relay.specs.Relay.{inputRefusal, frameOf, resetChannel, acceptedRese
 use Rattle.relay.proofs.Laws.{fresh-is, fresh-sound, fresh-channel, frame-accepted, frame-refused}
 use Rattle.relay.proofs.Sound.{input-codes}
 use Rattle.relay.proofs.Laws.{frame-sound, frame-channel, reset-accepted, reset-refused, reset-sound, reset-channel}
-use Rattle.history.specs.Calls.{Codes, Call, frame, reset, refusal, accepted, Device, theRelay, handedBack, after}
-use Rattle.history.specs.Stories.{Event, sampled, cleared, inputOf, eventsOf, story, frames}
-use Rattle.history.specs.Demand.{framesIn, levels, relayAfter, AcceptedSettings}
-use Rattle.history.proofs.Story.{_▷_, frames-sampled, inputs-cleared}
+use Rattle.history.specs.Calls.{Codes, Call, frame, reset, refusal, accepted, framesIn, Implementation, theRelay, handedBack, after}
+use Rattle.history.specs.History.{Event, sampled, cleared, inputOf, eventsOf, channelHistory, frames}
+use Rattle.history.specs.Demand.{levels, relayAfter, AcceptedSettings}
+use Rattle.history.proofs.History.{_▷_, frames-sampled, inputs-cleared}
 use Rattle.history.proofs.Channel.{ChannelIs, channel-fresh, channel-cleared, channel-sampled}
 
--- ---- the stories of the calls
+-- ---- each channel's history of the calls
 
-story-end : (c : ℕ) (calls : List Call) (call : Call) → story c (calls ++ (call ∷ [])) ≡ story c calls ++ eventsOf c call
-story-end c [] call = append-nil (eventsOf c call)
-story-end c (x ∷ calls) call = ap (λ (l : List Event). eventsOf c x ++ l) (story-end c calls call) ∙ sym (append-assoc (eventsOf c x) (story c calls) (eventsOf c call))
+history-end : (c : ℕ) (calls : List Call) (call : Call) → channelHistory c (calls ++ (call ∷ [])) ≡ channelHistory c calls ++ eventsOf c call
+history-end c [] call = append-nil (eventsOf c call)
+history-end c (x ∷ calls) call = ap (λ (l : List Event). eventsOf c x ++ l) (history-end c calls call) ∙ sym (append-assoc (eventsOf c x) (channelHistory c calls) (eventsOf c call))
 
-pub story-frame : (c : ℕ) (calls : List Call) (codes : Codes) (enable : ℕ) → inputRefusal (codes .list) enable ≡ 0
-    → story c (calls ++ (frame codes enable ∷ [])) ≡ story c calls ▷ sampled (inputOf c (codes .list) enable)
-story-frame c calls codes enable e = rw (story-end, e)
+pub history-frame : (c : ℕ) (calls : List Call) (codes : Codes) (enable : ℕ) → inputRefusal (codes .list) enable ≡ 0
+    → channelHistory c (calls ++ (frame codes enable ∷ [])) ≡ channelHistory c calls ▷ sampled (inputOf c (codes .list) enable)
+history-frame c calls codes enable e = rw (history-end, e)
 
-story-reset : (c : ℕ) (calls : List Call) (mask : ℕ) → maskRefusal mask ≡ 0
-    → story c (calls ++ (reset mask ∷ [])) ≡ story c calls ++ cond (bitOf mask c) (cleared ∷ []) []
-story-reset c calls mask e = rw (story-end, e)
+history-reset : (c : ℕ) (calls : List Call) (mask : ℕ) → maskRefusal mask ≡ 0
+    → channelHistory c (calls ++ (reset mask ∷ [])) ≡ channelHistory c calls ++ cond (bitOf mask c) (cleared ∷ []) []
+history-reset c calls mask e = rw (history-end, e)
 
-story-refused : (c : ℕ) (calls : List Call) (call : Call) → ¬ (refusal call ≡ 0) → story c (calls ++ (call ∷ [])) ≡ story c calls
-story-refused c calls (frame codes enable) e = rw (story-end, ne-eqb (inputRefusal (codes .list) enable) 0 e) (append-nil (story c calls))
-story-refused c calls (reset mask) e = rw (story-end, ne-eqb (maskRefusal mask) 0 e) (append-nil (story c calls))
+history-refused : (c : ℕ) (calls : List Call) (call : Call) → ¬ (refusal call ≡ 0) → channelHistory c (calls ++ (call ∷ [])) ≡ channelHistory c calls
+history-refused c calls (frame codes enable) e = rw (history-end, ne-eqb (inputRefusal (codes .list) enable) 0 e) (append-nil (channelHistory c calls))
+history-refused c calls (reset mask) e = rw (history-end, ne-eqb (maskRefusal mask) 0 e) (append-nil (channelHistory c calls))
 
--- an accepted frame is one to each channel
-pub frames-same : (c : ℕ) (calls : List Call) → frames (story c calls) ≡ framesIn calls
+-- each channel's history has as many frames as were accepted
+pub frames-same : (c : ℕ) (calls : List Call) → frames (channelHistory c calls) ≡ framesIn calls
 frames-same c [] = refl
 frames-same c (frame codes enable ∷ calls) = by (accepted (frame codes enable)) (frames-same c calls)
   where
-    by : (b : Bool) → frames (story c calls) ≡ framesIn calls
-        → frames (cond b (sampled (inputOf c (codes .list) enable) ∷ []) [] ++ story c calls) ≡ frames (cond b (sampled (inputOf 0 (codes .list) enable) ∷ []) [] ++ story 0 calls)
+    by : (b : Bool) → frames (channelHistory c calls) ≡ framesIn calls
+        → frames (cond b (sampled (inputOf c (codes .list) enable) ∷ []) [] ++ channelHistory c calls) ≡ cond b (suc (framesIn calls)) (framesIn calls)
     by true e = ap suc e
     by false e = e
-frames-same c (reset mask ∷ calls) = by (accepted (reset mask) && bitOf mask c) (accepted (reset mask) && bitOf mask 0) (frames-same c calls)
+frames-same c (reset mask ∷ calls) = by (accepted (reset mask) && bitOf mask c) (frames-same c calls)
   where
-    by : (a b : Bool) → frames (story c calls) ≡ framesIn calls → frames (cond a (cleared ∷ []) [] ++ story c calls) ≡ frames (cond b (cleared ∷ []) [] ++ story 0 calls)
-    by true true e = e
-    by true false e = e
-    by false true e = e
-    by false false e = e
+    by : (b : Bool) → frames (channelHistory c calls) ≡ framesIn calls → frames (cond b (cleared ∷ []) [] ++ channelHistory c calls) ≡ framesIn calls
+    by true e = e
+    by false e = e
 
 pub frames-frame : (calls : List Call) (codes : Codes) (enable : ℕ) → inputRefusal (codes .list) enable ≡ 0
     → framesIn (calls ++ (frame codes enable ∷ [])) ≡ suc (framesIn calls)
-frames-frame calls codes enable e = rw (story-frame 0 calls codes enable e) (frames-sampled (story 0 calls) (inputOf 0 (codes .list) enable))
+frames-frame calls codes enable e =
+    sym (frames-same 0 (calls ++ (frame codes enable ∷ []))) ∙ ap frames (history-frame 0 calls codes enable e)
+    ∙ frames-sampled (channelHistory 0 calls) (inputOf 0 (codes .list) enable) ∙ ap suc (frames-same 0 calls)
 
 frames-reset : (calls : List Call) (mask : ℕ) → maskRefusal mask ≡ 0 → framesIn (calls ++ (reset mask ∷ [])) ≡ framesIn calls
-frames-reset calls mask e = ap frames (story-reset 0 calls mask e) ∙ by (bitOf mask 0)
+frames-reset calls mask e =
+    sym (frames-same 0 (calls ++ (reset mask ∷ []))) ∙ ap frames (history-reset 0 calls mask e) ∙ by (bitOf mask 0) ∙ frames-same 0 calls
   where
-    by : (b : Bool) → frames (story 0 calls ++ cond b (cleared ∷ []) []) ≡ frames (story 0 calls)
-    by true = rw (inputs-cleared (story 0 calls))
+    by : (b : Bool) → frames (channelHistory 0 calls ++ cond b (cleared ∷ []) []) ≡ frames (channelHistory 0 calls)
+    by true = rw (inputs-cleared (channelHistory 0 calls))
     by false = rw append-nil
+
+frames-refused : (calls : List Call) (call : Call) → ¬ (refusal call ≡ 0) → framesIn (calls ++ (call ∷ [])) ≡ framesIn calls
+frames-refused calls call e = sym (frames-same 0 (calls ++ (call ∷ []))) ∙ ap frames (history-refused 0 calls call e) ∙ frames-same 0 calls
 
 -- ---- the relay
 
@@ -93,7 +97,7 @@ module _ (drop pickup : List ℕ) where
     pub settings : r .settings ≡ settingsOf drop pickup
     pub age : r .age ≡ min 72 (framesIn calls)
     pub slot : r .slot ≡ framesIn calls % 8
-    pub channel : (c : ℕ) → c < 6 → ChannelIs (levels drop pickup c) (story c calls) (channelAt r c)
+    pub channel : (c : ℕ) → c < 6 → ChannelIs (levels drop pickup c) (channelHistory c calls) (channelAt r c)
 
   fresh-is-so : AcceptedSettings drop pickup → Is [] (freshRelay (settingsOf drop pickup))
   unfolding freshRelay
@@ -115,8 +119,8 @@ module _ (drop pickup : List ℕ) where
         settings = v .settings;
         age = rw (frames-frame calls codes enable e) (age-step (r .age) (framesIn calls) (v .age));
         slot = rw (frames-frame calls codes enable e) (slot-step (r .slot) (framesIn calls) (v .slot));
-        channel = λ c h. rw (frame-channel r (codes .list) enable c h, story-frame c calls codes enable e, v .settings)
-            (channel-sampled (levels drop pickup c) (story c calls) (channelAt r c) (r .age) (r .slot) (getD (codes .list) c 0) (bitOf enable c) (bitOf enable 6)
+        channel = λ c h. rw (frame-channel r (codes .list) enable c h, history-frame c calls codes enable e, v .settings)
+            (channel-sampled (levels drop pickup c) (channelHistory c calls) (channelAt r c) (r .age) (r .slot) (getD (codes .list) c 0) (bitOf enable c) (bitOf enable 6)
             (rw (frames-same c calls) (v .age)) (rw (frames-same c calls) (v .slot)) (v .channel c h));
       }
 
@@ -128,12 +132,12 @@ module _ (drop pickup : List ℕ) where
         settings = v .settings;
         age = rw (frames-reset calls mask e) (v .age);
         slot = rw (frames-reset calls mask e) (v .slot);
-        channel = λ c h. rw (reset-channel r mask c h, story-reset c calls mask e) (named c (bitOf mask c) (v .channel c h));
+        channel = λ c h. rw (reset-channel r mask c h, history-reset c calls mask e) (named c (bitOf mask c) (v .channel c h));
       }
     where
-      named : (c : ℕ) (b : Bool) → ChannelIs (levels drop pickup c) (story c calls) (channelAt r c)
-          → ChannelIs (levels drop pickup c) (story c calls ++ cond b (cleared ∷ []) []) (cond b (clearedOf (channelAt r c)) (channelAt r c))
-      named c true w = channel-cleared (levels drop pickup c) (story c calls) (channelAt r c) w
+      named : (c : ℕ) (b : Bool) → ChannelIs (levels drop pickup c) (channelHistory c calls) (channelAt r c)
+          → ChannelIs (levels drop pickup c) (channelHistory c calls ++ cond b (cleared ∷ []) []) (cond b (clearedOf (channelAt r c)) (channelAt r c))
+      named c true w = channel-cleared (levels drop pickup c) (channelHistory c calls) (channelAt r c) w
       named c false w = rw append-nil w
 
   refused-is : (calls : List Call) (r : Relay) (call : Call) → ¬ (refusal call ≡ 0) → Is calls r → Is (calls ++ (call ∷ [])) r
@@ -141,9 +145,9 @@ module _ (drop pickup : List ℕ) where
       record {
         sound = v .sound;
         settings = v .settings;
-        age = rw (story-refused 0 calls call e) (v .age);
-        slot = rw (story-refused 0 calls call e) (v .slot);
-        channel = λ c h. rw (story-refused c calls call e) (v .channel c h);
+        age = rw (frames-refused calls call e) (v .age);
+        slot = rw (frames-refused calls call e) (v .slot);
+        channel = λ c h. rw (history-refused c calls call e) (v .channel c h);
       }
 
   call-is : (calls : List Call) (r : Relay) (call : Call) → Dec (refusal call ≡ 0) → Is calls r → Is (calls ++ (call ∷ [])) (handedBack theRelay r call)
@@ -169,6 +173,6 @@ module _ (drop pickup : List ℕ) where
   relay-is e calls = rw (fresh-is drop pickup e) (from [] calls (freshRelay (settingsOf drop pickup)) (fresh-is-so e))
 
 -- one call more
-pub after-end : (d : Device) (r : Relay) (past : List Call) (call : Call) → after d r (past ++ (call ∷ [])) ≡ handedBack d (after d r past) call
+pub after-end : (d : Implementation) (r : Relay) (past : List Call) (call : Call) → after d r (past ++ (call ∷ [])) ≡ handedBack d (after d r past) call
 after-end d r [] call = refl
 after-end d r (x ∷ past) call = after-end d (handedBack d r x) past call

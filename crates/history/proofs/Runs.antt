@@ -8,7 +8,7 @@ use mathlib.Core.Path.{_≡_, subst}
 use mathlib.Core.Logic.{_↔_}
 use mathlib.Core.Bool.{Bool, true, false, _||_}
 use lib.Dec.{T, eqb, eqb→eq, eqb-refl}
-use Rattle.history.specs.Stories.{InEach}
+use Rattle.history.specs.History.{InEach}
 
 pub record Streak (L F run : ℕ) (P : ℕ → Type 0) : Type 0 where
   pub small : run ≤ L

@@ -23,12 +23,12 @@ use Rattle.relay.specs.Channel.{windowAfter, channelAfter}
 use Rattle.relay.specs.Relay.{channelAt, freshOf, nextChannel, amplitudeIn, outputIn, acceptedFrame, inputRefusal, frameOf, acceptedReset}
 use Rattle.relay.proofs.Output.{bits-lt, bit-bits}
 use Rattle.relay.proofs.Laws.{fresh-accepted, fresh-is, frame-accepted, frame-refused, frame-channel, reset-accepted, reset-refused}
-use Rattle.history.specs.Calls.{Codes, Call, frame, reset, theRelay}
-use Rattle.history.specs.Stories.{inputOf, story, frames, windowOf, windowAt, resets, resetsBefore, FullRun, FullRunMeeting, LatchOn}
-use Rattle.history.specs.Demand.{framesIn, ClearlyBelow, BarelyBelow, ClearlyOver, BarelyOver, Margins, levels}
+use Rattle.history.specs.Calls.{Codes, Call, frame, reset, framesIn, theRelay}
+use Rattle.history.specs.History.{inputOf, channelHistory, frames, windowOf, windowAt, resets, resetsBefore, FullRun, FullRunMeeting, LatchOn}
+use Rattle.history.specs.Demand.{SurelyBelowDrop, PossiblyBelowDrop, SurelyOverPickup, PossiblyOverPickup, Margins, levels}
 use Rattle.history.specs.Demand.{lossOf, overOf, relayAfter, RelayIs, FrameAnswered, Answered, Demand3, AcceptedSettings, Demanded}
 use Rattle.history.proofs.Channel.{and-both, and-right, RunIs, ChannelIs, loss-rule, over-rule, went-on, ends-here}
-use Rattle.history.proofs.Relay.{Is, relay-is, frame-is, story-frame, frames-same, frames-frame}
+use Rattle.history.proofs.Relay.{Is, relay-is, frame-is, history-frame, frames-same, frames-frame}
 use Rattle.history.proofs.Windows.{window-sound}
 
 -- a latch is on and the channel is enabled
@@ -52,9 +52,9 @@ module _ (drop pickup : List ℕ) (settings : AcceptedSettings drop pickup) wher
         settings = v .settings;
         age = v .age;
         slot = v .slot;
-        samples = λ c h. v .channel c h .samples ∙ ap (windowOf (story c calls)) (frames-same c calls);
-        lossLatch = λ c h. loss-rule (levels drop pickup c) (story c calls) _ (v .channel c h);
-        overLatch = λ c h. over-rule (levels drop pickup c) (story c calls) _ (v .channel c h);
+        samples = λ c h. v .channel c h .samples ∙ ap (windowOf (channelHistory c calls)) (frames-same c calls);
+        lossLatch = λ c h. loss-rule (levels drop pickup c) (channelHistory c calls) _ (v .channel c h);
+        overLatch = λ c h. over-rule (levels drop pickup c) (channelHistory c calls) _ (v .channel c h);
       }
 
   -- ---- an accepted frame after the calls `past`
@@ -63,65 +63,65 @@ module _ (drop pickup : List ℕ) (settings : AcceptedSettings drop pickup) wher
     calls = past ++ (frame codes enable ∷ [])
 
     -- channel c after the frame, as the answer's definition has it
-    next-is : (c : ℕ) → c < 6 → ChannelIs (levels drop pickup c) (story c calls) (nextChannel (relay past) (codes .list) enable c)
+    next-is : (c : ℕ) → c < 6 → ChannelIs (levels drop pickup c) (channelHistory c calls) (nextChannel (relay past) (codes .list) enable c)
     next-is c h =
         rw (frame-channel (relay past) (codes .list) enable c h) at (frame-is drop pickup past (relay past) codes enable taken (is past) .channel c h)
 
-    window-is : (c : ℕ) → c < 6 → windowAfter (relay past .slot) (getD (codes .list) c 0) (channelAt (relay past) c) ≡ windowAt (story c calls) (framesIn past)
+    window-is : (c : ℕ) → c < 6 → windowAfter (relay past .slot) (getD (codes .list) c 0) (channelAt (relay past) c) ≡ windowAt (channelHistory c calls) (framesIn past)
     unfolding nextChannel channelAfter
-    window-is c h = next-is c h .samples ∙ ap (windowOf (story c calls)) (frames-same c calls ∙ frames-frame past codes enable taken)
+    window-is c h = next-is c h .samples ∙ ap (windowOf (channelHistory c calls)) (frames-same c calls ∙ frames-frame past codes enable taken)
 
-    amplitude-is : (c : ℕ) → c < 6 → getD (acceptedFrame (relay past) (codes .list) enable .amplitudes) c 0 ≡ amplitudeOf (windowAt (story c calls) (framesIn past))
+    amplitude-is : (c : ℕ) → c < 6 → getD (acceptedFrame (relay past) (codes .list) enable .amplitudes) c 0 ≡ amplitudeOf (windowAt (channelHistory c calls) (framesIn past))
     unfolding acceptedFrame amplitudeIn
     amplitude-is c h = getD-table 6 (amplitudeIn (relay past) (codes .list)) 0 c h ∙ ap amplitudeOf (window-is c h)
 
     output-is : (c : ℕ) → c < 6 → T (bitOf (acceptedFrame (relay past) (codes .list) enable .output) c)
-        ↔ ((LatchOn (lossOf drop pickup c) (story c calls) ⊎ LatchOn (overOf drop pickup c) (story c calls)) × T (enabledIn enable c))
+        ↔ ((LatchOn (lossOf drop pickup c) (channelHistory c calls) ⊎ LatchOn (overOf drop pickup c) (channelHistory c calls)) × T (enabledIn enable c))
     unfolding acceptedFrame outputIn
     output-is c h =
         let ch : Channel = nextChannel (relay past) (codes .list) enable c in
         rw (bit-bits 6 (outputIn (relay past) (codes .list) enable) c h)
-        (output-rule (ch .«loss_latch») (ch .«over_latch») (enabledIn enable c) (loss-rule (levels drop pickup c) (story c calls) ch (next-is c h))
-        (over-rule (levels drop pickup c) (story c calls) ch (next-is c h)))
+        (output-rule (ch .«loss_latch») (ch .«over_latch») (enabledIn enable c) (loss-rule (levels drop pickup c) (channelHistory c calls) ch (next-is c h))
+        (over-rule (levels drop pickup c) (channelHistory c calls) ch (next-is c h)))
 
-    -- the clauses on Z for one kind of run, whose level is met where Clearly holds, and only where Barely does
-    margins : (c : ℕ) → c < 6 → (kind : Kind) → 0 < kind .len → (Clearly Barely : List ℤ → Type 0)
-        → ((w : List ℤ) → windowSound w ≡ true → Clearly w → T (kind .meets w)) → ((w : List ℤ) → windowSound w ≡ true → T (kind .meets w) → Barely w)
-        → (run : ℕ) (before now : Bool) → RunIs kind (story c past) run before → (T now ↔ LatchOn kind (story c calls))
-        → Margins kind Clearly Barely (story c calls) before now
-    margins c h kind some Clearly Barely met near run before now r rule =
+    -- the clauses on Z for one kind of run, whose level is met where Surely holds, and only where Possibly does
+    margins : (c : ℕ) → c < 6 → (kind : Kind) → 0 < kind .len → (Surely Possibly : List ℤ → Type 0)
+        → ((w : List ℤ) → windowSound w ≡ true → Surely w → T (kind .meets w)) → ((w : List ℤ) → windowSound w ≡ true → T (kind .meets w) → Possibly w)
+        → (run : ℕ) (before now : Bool) → RunIs kind (channelHistory c past) run before → (T now ↔ LatchOn kind (channelHistory c calls))
+        → Margins kind Surely Possibly (channelHistory c calls) before now
+    margins c h kind some Surely Possibly met near run before now r rule =
         record {
-          clear = λ j e full each. rule .1
+          clearMargin = λ j e full each. rule .1
               (j, record { run = full; meets = λ n a b. met _ (window-sound c h calls (suc n)) (each n a b); afterLastReset = last j e full });
-          near = λ off on.
+          nearMargin = λ off on.
               let t = ending off (rule .0 on) in
               (t .0, t .1, t .2 .run, λ n a b. near _ (window-sound c h calls (suc n)) (t .2 .meets n a b));
         }
       where
-        last : (j : ℕ) → j + kind .len ≡ frames (story c calls) → FullRun (story c calls) (kind .len) j → resetsBefore (story c calls) j ≡ resets (story c calls)
-        last j e full = rw (story-frame c past codes enable taken) (ends-here kind (story c past) (inputOf c (codes .list) enable) (kind .len) j some
-            (rw (story-frame c past codes enable taken) at e) (rw (story-frame c past codes enable taken) at full))
+        last : (j : ℕ) → j + kind .len ≡ frames (channelHistory c calls) → FullRun (channelHistory c calls) (kind .len) j → resetsBefore (channelHistory c calls) j ≡ resets (channelHistory c calls)
+        last j e full = rw (history-frame c past codes enable taken) (ends-here kind (channelHistory c past) (inputOf c (codes .list) enable) (kind .len) j some
+            (rw (history-frame c past codes enable taken) at e) (rw (history-frame c past codes enable taken) at full))
 
-        ending : ¬ T before → LatchOn kind (story c calls) → (j : ℕ) × (j + kind .len ≡ frames (story c calls)) × FullRunMeeting kind (story c calls) j
-        ending = rw (story-frame c past codes enable taken) (went-on kind (story c past) (inputOf c (codes .list) enable) some run before r)
+        ending : ¬ T before → LatchOn kind (channelHistory c calls) → (j : ℕ) × (j + kind .len ≡ frames (channelHistory c calls)) × FullRunMeeting kind (channelHistory c calls) j
+        ending = rw (history-frame c past codes enable taken) (went-on kind (channelHistory c past) (inputOf c (codes .list) enable) some run before r)
 
     loss-margins : (c : ℕ) → c < 6
-        → Margins (lossOf drop pickup c) (ClearlyBelow (levels drop pickup c .drop)) (BarelyBelow (levels drop pickup c .drop))
-        (story c calls) (channelAt (relay past) c .«loss_latch») (channelAt (relay calls) c .«loss_latch»)
+        → Margins (lossOf drop pickup c) (SurelyBelowDrop (levels drop pickup c .drop)) (PossiblyBelowDrop (levels drop pickup c .drop))
+        (channelHistory c calls) (channelAt (relay past) c .«loss_latch») (channelAt (relay calls) c .«loss_latch»)
     loss-margins c h =
-        margins c h (lossOf drop pickup c) (omega arith) (ClearlyBelow (levels drop pickup c .drop)) (BarelyBelow (levels drop pickup c .drop))
+        margins c h (lossOf drop pickup c) (omega arith) (SurelyBelowDrop (levels drop pickup c .drop)) (PossiblyBelowDrop (levels drop pickup c .drop))
         (λ w s z. lt→ltb (amplitudeOf w) (levels drop pickup c .drop) (loss-clear w s (levels drop pickup c .drop) z))
         (λ w s t. loss-near w s (levels drop pickup c .drop) (ltb→lt (amplitudeOf w) (levels drop pickup c .drop) t))
-        _ _ _ (is past .channel c h .lossRun) (loss-rule (levels drop pickup c) (story c calls) (channelAt (relay calls) c) (is calls .channel c h))
+        _ _ _ (is past .channel c h .lossRun) (loss-rule (levels drop pickup c) (channelHistory c calls) (channelAt (relay calls) c) (is calls .channel c h))
 
     over-margins : (c : ℕ) → 3 ≤ c → c < 6
-        → Margins (overOf drop pickup c) (ClearlyOver (levels drop pickup c .pickup)) (BarelyOver (levels drop pickup c .pickup))
-        (story c calls) (channelAt (relay past) c .«over_latch») (channelAt (relay calls) c .«over_latch»)
+        → Margins (overOf drop pickup c) (SurelyOverPickup (levels drop pickup c .pickup)) (PossiblyOverPickup (levels drop pickup c .pickup))
+        (channelHistory c calls) (channelAt (relay past) c .«over_latch») (channelAt (relay calls) c .«over_latch»)
     over-margins c current h =
-        margins c h (overOf drop pickup c) (omega arith) (ClearlyOver (levels drop pickup c .pickup)) (BarelyOver (levels drop pickup c .pickup))
+        margins c h (overOf drop pickup c) (omega arith) (SurelyOverPickup (levels drop pickup c .pickup)) (PossiblyOverPickup (levels drop pickup c .pickup))
         (λ w s z. and-both (leb 3 c) _ (le→leb 3 c current) (le→leb (levels drop pickup c .pickup) (amplitudeOf w) (over-clear w s (levels drop pickup c .pickup) z)))
         (λ w s t. over-near w s (levels drop pickup c .pickup) (leb→le (levels drop pickup c .pickup) (amplitudeOf w) (and-right (leb 3 c) _ t)))
-        _ _ _ (is past .channel c h .overRun) (over-rule (levels drop pickup c) (story c calls) (channelAt (relay calls) c) (is calls .channel c h))
+        _ _ _ (is past .channel c h .overRun) (over-rule (levels drop pickup c) (channelHistory c calls) (channelAt (relay calls) c) (is calls .channel c h))
 
     frame-answered : FrameAnswered theRelay drop pickup past calls enable (frameOf (relay past) (codes .list) enable)
     unfolding acceptedFrame

@@ -1,5 +1,6 @@
--- Demand 3 leaves nothing open but the runs: any device that meets it answers every call of every list as our relay does, and hands back the
--- same settings, age, slot, samples and latches. Rests on demand 3 for our relay, and on bytes being known by their bits.
+-- On lists from accepted settings demand 3 leaves open the runs alone (and what a list of channels holds past the sixth, which the code's array
+-- has not): any implementation that meets it answers every call as our relay does, and hands back the same settings, age, slot, samples and
+-- latches. Rests on demand 3 for our relay, and on bytes being known by their bits.
 use Prim.Native.Nat.{ℕ, zero, suc, _+_, _/_, _%_, _^_, _<_}
 use native.Mathlib.Nat.{pow-succ', div-div-eq-div-mul}
 use native.Mathlib.Decide.{ℕ-discrete}
@@ -15,7 +16,7 @@ use Rattle.relay.specs.declared.Relay.{Relay}
 use Rattle.relay.specs.declared.FrameAnswer.{FrameAnswer}
 use Rattle.relay.specs.Bits.{bitOf}
 use Rattle.relay.specs.Relay.{channelAt, inputRefusal, refusedFrame, maskRefusal, refusedReset}
-use Rattle.history.specs.Calls.{Codes, Call, frame, reset, Device, theRelay}
+use Rattle.history.specs.Calls.{Codes, Call, frame, reset, Implementation, theRelay}
 use Rattle.history.specs.Demand.{relayAfter, RelayIs, Answered, AcceptedSettings, Demanded}
 use Rattle.history.proofs.Theorem.{demand3}
 
@@ -60,7 +61,7 @@ same-bits (suc n) x y h k e =
     (λ c l. half-bit x c ∙ e (suc c) (omega arith) ∙ sym (half-bit y c)) in
     omega (arith, low-bit x y (e 0 (omega arith)))
 
-module _ (d : Device) (meets : Demanded d) (drop pickup : List ℕ) (settings : AcceptedSettings drop pickup) where
+module _ (d : Implementation) (meets : Demanded d) (drop pickup : List ℕ) (settings : AcceptedSettings drop pickup) where
   pub same-relay : (calls : List Call) → SameButRuns (relayAfter d drop pickup calls) (relayAfter theRelay drop pickup calls)
   same-relay calls =
       record {

@@ -15,7 +15,7 @@ use Rattle.relay.specs.Relay.{codesSound, inputRefusal}
 use Rattle.relay.proofs.Sound.{input-codes}
 use Rattle.phasor.proofs.Samples.{sample-is-sound}
 use Rattle.history.specs.Calls.{Codes, Call, frame, reset, accepted}
-use Rattle.history.specs.Stories.{Event, sampled, cleared, inputOf, story, inputAt, latestInSlot, windowOf}
+use Rattle.history.specs.History.{Event, sampled, cleared, inputOf, channelHistory, inputAt, latestInSlot, windowOf}
 
 abbrev Sound : List Event → Type 0
 Sound es = (n : ℕ) → sampleSound (inputAt es n .sample) ≡ true
@@ -26,18 +26,18 @@ code-sound codes enable c h e =
     sample-is-sound (getD (codes .list) c 0)
     (leb-true _ 1023 (every-at 6 _ (input-codes (codes .list) enable (eqb-true (inputRefusal (codes .list) enable) 0 e)) c h))
 
-story-sound : (c : ℕ) → c < 6 → (calls : List Call) → Sound (story c calls)
-story-sound c h [] = λ n. refl
-story-sound c h (frame codes enable ∷ calls) = by (accepted (frame codes enable)) (code-sound codes enable c h) (story-sound c h calls)
+history-sound : (c : ℕ) → c < 6 → (calls : List Call) → Sound (channelHistory c calls)
+history-sound c h [] = λ n. refl
+history-sound c h (frame codes enable ∷ calls) = by (accepted (frame codes enable)) (code-sound codes enable c h) (history-sound c h calls)
   where
-    by : (b : Bool) → (b ≡ true → sampleSound (sampleOf (getD (codes .list) c 0)) ≡ true) → Sound (story c calls)
-        → Sound (cond b (sampled (inputOf c (codes .list) enable) ∷ []) [] ++ story c calls)
+    by : (b : Bool) → (b ≡ true → sampleSound (sampleOf (getD (codes .list) c 0)) ≡ true) → Sound (channelHistory c calls)
+        → Sound (cond b (sampled (inputOf c (codes .list) enable) ∷ []) [] ++ channelHistory c calls)
     by true s rest zero = s refl
     by true s rest (suc n) = rest n
     by false s rest n = rest n
-story-sound c h (reset mask ∷ calls) = by (accepted (reset mask) && bitOf mask c) (story-sound c h calls)
+history-sound c h (reset mask ∷ calls) = by (accepted (reset mask) && bitOf mask c) (history-sound c h calls)
   where
-    by : (b : Bool) → Sound (story c calls) → Sound (cond b (cleared ∷ []) [] ++ story c calls)
+    by : (b : Bool) → Sound (channelHistory c calls) → Sound (cond b (cleared ∷ []) [] ++ channelHistory c calls)
     by true rest n = rest n
     by false rest n = rest n
 
@@ -49,7 +49,7 @@ latest-sound es s (suc n) k = by (eqb (n % 8) k) (latest-sound es s n k)
     by true rest = s n
     by false rest = rest
 
-pub window-sound : (c : ℕ) → c < 6 → (calls : List Call) (n : ℕ) → windowSound (windowOf (story c calls) n) ≡ true
+pub window-sound : (c : ℕ) → c < 6 → (calls : List Call) (n : ℕ) → windowSound (windowOf (channelHistory c calls) n) ≡ true
 unfolding windowSound windowOf
 window-sound c h calls n =
-    every-true 8 _ (λ k l. rw (getD-table 8 (latestInSlot (story c calls) n) (pos 0) k l) (latest-sound (story c calls) (story-sound c h calls) n k))
+    every-true 8 _ (λ k l. rw (getD-table 8 (latestInSlot (channelHistory c calls) n) (pos 0) k l) (latest-sound (channelHistory c calls) (history-sound c h calls) n k))

@@ -1,8 +1,8 @@
 -- Lists of calls on a relay, refused ones among them, each given the relay handed back before it (document 01, demand 3).
 -- Rests on the relay's three calls and on what alone refuses a call in such a list: its codes, enable byte or mask.
-use Prim.Native.Nat.{ℕ}
+use Prim.Native.Nat.{ℕ, suc}
 use mathlib.Core.Path.{_≡_}
-use mathlib.Core.Bool.{Bool}
+use mathlib.Core.Bool.{Bool, cond}
 use mathlib.Core.List.{List, [], _∷_}
 use lib.Dec.{eqb}
 use lib.ListN.{length}
@@ -30,21 +30,27 @@ refusal (reset mask) = maskRefusal mask
 abbrev pub accepted : Call → Bool
 accepted call = eqb (refusal call) 0
 
--- What answers the three calls. Demand 3 is stated for any such device, so that a wrong one can be shown not to meet it.
-pub record Device : Type 0 where
+-- the number of accepted frames
+abbrev pub framesIn : List Call → ℕ
+framesIn [] = 0
+framesIn (frame codes enable ∷ calls) = cond (accepted (frame codes enable)) (suc (framesIn calls)) (framesIn calls)
+framesIn (reset mask ∷ calls) = framesIn calls
+
+-- What answers the three calls. Demand 3 is stated for any implementation, so that a wrong one can be shown not to meet it.
+pub record Implementation : Type 0 where
   pub fresh : List ℕ → List ℕ → FreshAnswer
   pub frame : Relay → List ℕ → ℕ → FrameAnswer
   pub reset : Relay → ℕ → ResetAnswer
 
 -- ours: the very functions that the contracts of `fresh`, `frame` and `reset` name
-abbrev pub theRelay : Device
+abbrev pub theRelay : Implementation
 theRelay = record { fresh = freshOf; frame = frameOf; reset = resetOf }
 
 -- the relay that one call hands back, and the one after a list of calls
-abbrev pub handedBack : Device → Relay → Call → Relay
+abbrev pub handedBack : Implementation → Relay → Call → Relay
 handedBack d r (frame codes enable) = d .frame r (codes .list) enable .relay
 handedBack d r (reset mask) = d .reset r mask .relay
 
-abbrev pub after : Device → Relay → List Call → Relay
+abbrev pub after : Implementation → Relay → List Call → Relay
 after d r [] = r
 after d r (call ∷ calls) = after d (handedBack d r call) calls

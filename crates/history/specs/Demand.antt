@@ -1,5 +1,5 @@
 -- Demand 3 of document 01: one claim about every list of frames and resets, refused ones among them, from a fresh relay.
--- It is stated for any device; `Demanded theRelay` is the theorem. Rests on the history read from the calls and on the exact amplitude.
+-- It is stated for any implementation; `Demanded theRelay` is the theorem. Rests on the history read from the calls and on the exact amplitude.
 use Prim.Native.Nat.{ℕ, _+_, _-_, _%_, _≤_, _<_, min}
 use mathlib.Core.Path.{_≡_}
 use mathlib.Core.Logic.{_⊎_, _↔_}
@@ -18,33 +18,29 @@ use Rattle.relay.specs.Bits.{bitOf, enabledIn}
 use Rattle.relay.specs.Settings.{Kind, settingsOf, settingsSound, loss, over}
 use Rattle.relay.specs.Sound.{soundOf}
 use Rattle.relay.specs.Relay.{channelAt, refusedFrame, refusedReset, inputRefusal, maskRefusal}
-use Rattle.history.specs.Calls.{Call, frame, reset, Device, after}
-use Rattle.history.specs.Stories.{Event, story, frames, windowOf, windowAt, InEach, FullRun, LatchOn}
+use Rattle.history.specs.Calls.{Call, frame, reset, framesIn, Implementation, after}
+use Rattle.history.specs.History.{Event, channelHistory, frames, windowOf, windowAt, InEach, FullRun, LatchOn}
 
--- the number of accepted frames, as channel 0 meets them; each channel meets as many
-abbrev pub framesIn : List Call → ℕ
-framesIn calls = frames (story 0 calls)
+-- the clauses on Z, for one window: Z < drop − 2, Z < drop + 2, Z ≥ pickup + 2, Z ≥ pickup − 2
+abbrev pub SurelyBelowDrop : ℕ → List ℤ → Type 0
+SurelyBelowDrop drop w = Below w (pos drop -ℤ pos 2)
 
--- the levels with the margin of 2: what makes sure that a level is met, and what a met level makes sure of
-abbrev pub ClearlyBelow : ℕ → List ℤ → Type 0
-ClearlyBelow drop w = Below w (pos drop -ℤ pos 2)
+abbrev pub PossiblyBelowDrop : ℕ → List ℤ → Type 0
+PossiblyBelowDrop drop w = Below w (pos drop +ℤ pos 2)
 
-abbrev pub BarelyBelow : ℕ → List ℤ → Type 0
-BarelyBelow drop w = Below w (pos drop +ℤ pos 2)
+abbrev pub SurelyOverPickup : ℕ → List ℤ → Type 0
+SurelyOverPickup pickup w = AtLeast w (pos pickup +ℤ pos 2)
 
-abbrev pub ClearlyOver : ℕ → List ℤ → Type 0
-ClearlyOver pickup w = AtLeast w (pos pickup +ℤ pos 2)
-
-abbrev pub BarelyOver : ℕ → List ℤ → Type 0
-BarelyOver pickup w = AtLeast w (pos pickup -ℤ pos 2)
+abbrev pub PossiblyOverPickup : ℕ → List ℤ → Type 0
+PossiblyOverPickup pickup w = AtLeast w (pos pickup -ℤ pos 2)
 
 -- The clauses on Z at a frame, the latest of `es`: the latch was `before` and is `now`.
-pub record Margins (kind : Kind) (Clearly Barely : List ℤ → Type 0) (es : List Event) (before now : Bool) : Type 0 where
+pub record Margins (kind : Kind) (Surely Possibly : List ℤ → Type 0) (es : List Event) (before now : Bool) : Type 0 where
   -- "if Z ≥ pickup + 2 (over) or Z < drop − 2 (loss) in each frame of a full run, the latch is on after its last frame"
-  pub clear : (j : ℕ) → j + kind .len ≡ frames es → FullRun es (kind .len) j → InEach j (kind .len) (λ n. Clearly (windowAt es n)) → T now
+  pub clearMargin : (j : ℕ) → j + kind .len ≡ frames es → FullRun es (kind .len) j → InEach j (kind .len) (λ n. Surely (windowAt es n)) → T now
   -- "where a latch went on in a frame, Z ≥ pickup − 2 or Z < drop + 2 held in each frame of the full run ending there"
-  pub near : ¬ T before → T now
-      → (j : ℕ) × (j + kind .len ≡ frames es) × FullRun es (kind .len) j × InEach j (kind .len) (λ n. Barely (windowAt es n))
+  pub nearMargin : ¬ T before → T now
+      → (j : ℕ) × (j + kind .len ≡ frames es) × FullRun es (kind .len) j × InEach j (kind .len) (λ n. Possibly (windowAt es n))
 
 -- A channel's levels, "a drop level for each channel and a pickup level for each current" (3, 4, 5), and its two kinds of run under them; a
 -- voltage's over run never meets its level. Read from the settings as handed in, not through the relay's own definitions.
@@ -58,7 +54,7 @@ module _ (drop pickup : List ℕ) (c : ℕ) where
   abbrev pub overOf : Kind
   overOf = over levels
 
-module _ (d : Device) (drop pickup : List ℕ) where
+module _ (d : Implementation) (drop pickup : List ℕ) where
   -- the relay after a list of calls from the fresh one: "nothing alters the relay between two calls"
   abbrev pub relayAfter : List Call → Relay
   relayAfter calls = after d (d .fresh drop pickup .relay) calls
@@ -71,30 +67,30 @@ module _ (d : Device) (drop pickup : List ℕ) where
     -- so a frame "found age 72" exactly where its number is 72 or more; "frame n goes to slot n mod 8"
     pub age : relayAfter calls .age ≡ min 72 (framesIn calls)
     pub slot : relayAfter calls .slot ≡ framesIn calls % 8
-    pub samples : (c : ℕ) → c < 6 → channelAt (relayAfter calls) c .samples ≡ windowOf (story c calls) (framesIn calls)
+    pub samples : (c : ℕ) → c < 6 → channelAt (relayAfter calls) c .samples ≡ windowOf (channelHistory c calls) (framesIn calls)
     -- "A loss latch, or a current's over latch, is on exactly when .."; a voltage's over latch never is
-    pub lossLatch : (c : ℕ) → c < 6 → T (channelAt (relayAfter calls) c .«loss_latch») ↔ LatchOn (lossOf drop pickup c) (story c calls)
-    pub overLatch : (c : ℕ) → c < 6 → T (channelAt (relayAfter calls) c .«over_latch») ↔ LatchOn (overOf drop pickup c) (story c calls)
+    pub lossLatch : (c : ℕ) → c < 6 → T (channelAt (relayAfter calls) c .«loss_latch») ↔ LatchOn (lossOf drop pickup c) (channelHistory c calls)
+    pub overLatch : (c : ℕ) → c < 6 → T (channelAt (relayAfter calls) c .«over_latch») ↔ LatchOn (overOf drop pickup c) (channelHistory c calls)
 
   -- What an accepted frame after the calls `past` answers. `calls` are these and the frame, which has the number framesIn past.
   pub record FrameAnswered (past calls : List Call) (enable : ℕ) (answer : FrameAnswer) : Type 0 where
     pub number : answer .number ≡ 0
     -- "Frame n answers the six m, each within 2 of Z"
     pub six : length (answer .amplitudes) ≡ 6
-    pub amplitude : (c : ℕ) → c < 6 → getD (answer .amplitudes) c 0 ≡ amplitudeOf (windowAt (story c calls) (framesIn past))
-    pub within : (c : ℕ) → c < 6 → Within (windowAt (story c calls) (framesIn past)) (getD (answer .amplitudes) c 0)
+    pub amplitude : (c : ℕ) → c < 6 → getD (answer .amplitudes) c 0 ≡ amplitudeOf (windowAt (channelHistory c calls) (framesIn past))
+    pub within : (c : ℕ) → c < 6 → Within (windowAt (channelHistory c calls) (framesIn past)) (getD (answer .amplitudes) c 0)
     pub bounded : (c : ℕ) → c < 6 → getD (answer .amplitudes) c 0 ≤ 10700
     -- "bit c is 1 exactly when channel c has a latch on by this rule after frame n and is enabled in it"
     pub output : (c : ℕ) → c < 6
-        → T (bitOf (answer .output) c) ↔ ((LatchOn (lossOf drop pickup c) (story c calls) ⊎ LatchOn (overOf drop pickup c) (story c calls)) × T (enabledIn enable c))
+        → T (bitOf (answer .output) c) ↔ ((LatchOn (lossOf drop pickup c) (channelHistory c calls) ⊎ LatchOn (overOf drop pickup c) (channelHistory c calls)) × T (enabledIn enable c))
     pub sixBits : answer .output < 64
     -- "The clauses on Z"
     pub lossMargins : (c : ℕ) → c < 6
-        → Margins (lossOf drop pickup c) (ClearlyBelow (levels drop pickup c .drop)) (BarelyBelow (levels drop pickup c .drop))
-        (story c calls) (channelAt (relayAfter past) c .«loss_latch») (channelAt (relayAfter calls) c .«loss_latch»)
+        → Margins (lossOf drop pickup c) (SurelyBelowDrop (levels drop pickup c .drop)) (PossiblyBelowDrop (levels drop pickup c .drop))
+        (channelHistory c calls) (channelAt (relayAfter past) c .«loss_latch») (channelAt (relayAfter calls) c .«loss_latch»)
     pub overMargins : (c : ℕ) → 3 ≤ c → c < 6
-        → Margins (overOf drop pickup c) (ClearlyOver (levels drop pickup c .pickup)) (BarelyOver (levels drop pickup c .pickup))
-        (story c calls) (channelAt (relayAfter past) c .«over_latch») (channelAt (relayAfter calls) c .«over_latch»)
+        → Margins (overOf drop pickup c) (SurelyOverPickup (levels drop pickup c .pickup)) (PossiblyOverPickup (levels drop pickup c .pickup))
+        (channelHistory c calls) (channelAt (relayAfter past) c .«over_latch») (channelAt (relayAfter calls) c .«over_latch»)
 
   -- What a call after the calls `past` answers. "A refused call changes nothing": its number, zeros, and the relay as given.
   abbrev pub Answered : List Call → Call → Type 0
@@ -123,5 +119,5 @@ AcceptedSettings drop pickup = settingsSound (settingsOf drop pickup) ≡ true
 -- Demand 3: "from a fresh relay made with accepted settings", every list, "the empty one too"; that making the relay accepts them is part of it.
 -- The code's arrays hold six and three levels, and its bytes are below 256; the claim is for any lists that hold at least these levels, and for
 -- any number in a byte's place.
-abbrev pub Demanded : Device → Type 0
+abbrev pub Demanded : Implementation → Type 0
 Demanded d = (drop pickup : List ℕ) → AcceptedSettings drop pickup → (calls : List Call) → Demand3 d drop pickup calls

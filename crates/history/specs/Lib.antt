@@ -1,4 +1,4 @@
 pub mod Calls
 pub mod Demand
-pub mod Stories
+pub mod History
 pub mod WrongRelays

@@ -1,5 +1,5 @@
 -- Wrong relays: those that document 01 names under "What a promise says here", 3, two of its "Mistakes to keep out", and two more. Each is
--- said of any device by the one thing that it does wrong to accepted calls, in lists from a relay made with accepted settings, whatever else it
+-- said of any implementation by the one thing that it does wrong to accepted calls, in lists from a relay made with accepted settings, whatever else it
 -- does. None meets demand 3. Rests on the lists of calls.
 use Prim.Native.Nat.{ℕ, suc, _≤_, _<_}
 use mathlib.Core.Path.{_≡_}
@@ -7,16 +7,16 @@ use mathlib.Core.List.{List, [], _∷_, _++_}
 use lib.ListN.{getD, replicate}
 use Rattle.relay.specs.declared.Relay.{Relay}
 use Rattle.relay.specs.Relay.{channelAt, amplitudeIn, inputRefusal, maskRefusal}
-use Rattle.history.specs.Calls.{Codes, Call, frame, Device}
-use Rattle.history.specs.Demand.{framesIn, relayAfter, AcceptedSettings}
+use Rattle.history.specs.Calls.{Codes, Call, frame, framesIn, Implementation}
+use Rattle.history.specs.Demand.{relayAfter, AcceptedSettings}
 
 -- P holds of each accepted frame in these lists: of the relay that it is given, its codes and its enable byte
-abbrev pub EachFrame : Device → (Relay → List ℕ → ℕ → Type 0) → Type 0
+abbrev pub EachFrame : Implementation → (Relay → List ℕ → ℕ → Type 0) → Type 0
 EachFrame d P = (drop pickup : List ℕ) → AcceptedSettings drop pickup → (past : List Call) (codes : Codes) (enable : ℕ)
     → inputRefusal (codes .list) enable ≡ 0 → P (relayAfter d drop pickup past) (codes .list) enable
 
 -- and the same of each accepted reset: of the relay that it is given and its mask
-abbrev pub EachReset : Device → (Relay → ℕ → Type 0) → Type 0
+abbrev pub EachReset : Implementation → (Relay → ℕ → Type 0) → Type 0
 EachReset d P = (drop pickup : List ℕ) → AcceptedSettings drop pickup → (past : List Call) (mask : ℕ) → maskRefusal mask ≡ 0 → P (relayAfter d drop pickup past) mask
 
 -- the loss latches are the same in two relays
@@ -24,12 +24,12 @@ abbrev pub SameLatches : Relay → Relay → Type 0
 SameLatches r s = (c : ℕ) → c < 6 → channelAt r c .«loss_latch» ≡ channelAt s c .«loss_latch»
 
 -- of two successive accepted frames, the first of them counted, the second leaves the loss latches as the first handed them back
-abbrev pub FixedLatches : Device → Type 0
+abbrev pub FixedLatches : Implementation → Type 0
 FixedLatches d = (drop pickup : List ℕ) → AcceptedSettings drop pickup → (past : List Call) (one two : Codes) (enableOne enableTwo : ℕ)
     → inputRefusal (one .list) enableOne ≡ 0 → inputRefusal (two .list) enableTwo ≡ 0 → 72 ≤ framesIn past
     → SameLatches (d .frame (relayAfter d drop pickup (past ++ (frame one enableOne ∷ []))) (two .list) enableTwo .relay) (relayAfter d drop pickup (past ++ (frame one enableOne ∷ [])))
 
-pub data Wrong (d : Device) : Type 0 where
+pub data Wrong (d : Implementation) : Type 0 where
   -- "a relay that never trips"
   neverTrips : EachFrame d (λ r codes enable. d .frame r codes enable .output ≡ 0) → Wrong d
   -- "or hands itself back unaltered"

@@ -1,5 +1,5 @@
 -- What is promised of the amplitude, on the definitions that the contract of `amplitudes` cites. Each statement holds for every window, or for
--- every sound one; nothing is assumed. Rests on Trace, Accuracy and Order.
+-- every sound one; nothing else is assumed. Rests on Trace, Accuracy and Order.
 use mathlib.Core.Path.{_≡_, refl}
 use mathlib.Core.Bool.{true}
 use mathlib.Core.List.{List}
@@ -32,7 +32,7 @@ amplitude-is w = go (lastX w) (not-negative w)
 
 -- ---- accuracy
 
--- THE ACCURACY THEOREM: the amplitude is never above 10,700, and is within 2 of the exact amplitude
+-- the accuracy theorem: the amplitude is never above 10,700, and is within 2 of the exact amplitude
 pub accurate : (w : List ℤ) → windowSound w ≡ true → (amplitudeOf w ≤ 10700) × Within w (amplitudeOf w)
 accurate w sound = (accuracy.largest w sound, accuracy.near-exact w sound)
 

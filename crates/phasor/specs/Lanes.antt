@@ -1,5 +1,4 @@
--- Six windows at once, and the words in which the private functions of this crate speak to each other of eight points side by side.
--- Only `windowAt`, `WindowsSound` and `NeverAbove` stand in a public contract; nothing after them need be believed. Rests on Window and Cordic.
+-- Six windows at once, and what the contracts of this crate's private functions cite. Rests on Window and Cordic.
 use Prim.Native.Nat.{ℕ, _+_, _*_, _<_, _≤_}
 use mathlib.Core.Path.{_≡_}
 use mathlib.Core.List.{List, []}

@@ -29,6 +29,7 @@ struct Points {
     y: [i32; 8],
 }
 
+// The weights for slots 0 to 7: one table in two rows.
 const COSINES: [i32; 8] = [16384, 11585, 0, -11585, -16384, -11585, 0, 11585];
 
 const SINES: [i32; 8] = [0, 11585, 16384, 11585, 0, -11585, -16384, -11585];
@@ -41,7 +42,7 @@ pub fn sample(code: u16) -> i16
     code as i16 - 512
 }
 
-pub fn sample_sound(s: i16) -> bool
+fn sample_sound(s: i16) -> bool
     ensures { λ r. ⌜ r ≡ sampleSound s ⌝ }
 {
     (-512 <= s) & (s <= 511)

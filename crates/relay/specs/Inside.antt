@@ -1,4 +1,4 @@
--- The words in which this crate's private functions speak to each other. No public contract cites them, so nothing here need be believed.
+-- What the contracts of this crate's own functions cite; no entry point's contract does.
 -- Rests on one channel's rules.
 use Prim.Native.Nat.{ℕ}
 use mathlib.Core.Bool.{Bool, _&&_, cond}

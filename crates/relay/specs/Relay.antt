@@ -45,7 +45,7 @@ freshOf drop pickup =
 
 -- ---- a frame
 
--- a counted frame, a term of document 01, "is one that found age 72"
+-- a counted frame, a term of document 01, "is one that found age 72"; a sound relay's age is at most 72
 abbrev pub counted : Relay → Bool
 counted r = leb 72 (r .age)
 

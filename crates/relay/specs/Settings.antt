@@ -35,7 +35,7 @@ settingsSound s = dropsSound (s .drop) && pickupsSound (s .pickup)
 unfoldable pub levelsOf : Settings → ℕ → Levels
 levelsOf s c = record { drop = getD (s .drop) c 0; pickup = cond (isCurrent c) (getD (s .pickup) (c - 3) 0) 0; current = isCurrent c }
 
--- One kind of run of a channel: how many frames make a full run (a term of document 01), and whether a window meets the level.
+-- Kind (our word): loss or over; how many frames make a full run (document 01's term), and whether a window meets the level
 pub record Kind : Type 0 where
   pub len : ℕ
   pub meets : List ℤ → Bool

@@ -1,5 +1,5 @@
 -- A sound relay, a term of document 01: "settings are in range, age is 0 to 72, slot 0 to 7, samples −512 to 511, loss runs 0 to 16,
--- over runs 0 to 4. A voltage has no over run and no over latch; a place kept for one must hold 0 or off." No other tie is asked.
+-- over runs 0 to 4. A voltage has no over run and no over latch; a place kept for one must hold 0 or off." No relation between fields is asked for.
 use mathlib.Core.Bool.{Bool, _&&_, not, cond}
 use mathlib.Core.List.{List}
 use lib.Dec.{leb, eqb}

@@ -5,7 +5,7 @@ ghost use Prim.Native.Nat.{_+_, _<_, _^_};
 ghost use Rattle.relay.specs.Bits.{bitOf, enabledIn};
 
 // Bit c is 1.
-pub fn bit(byte: u8, c: usize) -> bool
+pub(crate) fn bit(byte: u8, c: usize) -> bool
     requires { ⌜ c < 8 ⌝ }
     ensures { λ r. ⌜ r ≡ bitOf byte c ⌝ }
 {
@@ -13,7 +13,7 @@ pub fn bit(byte: u8, c: usize) -> bool
 }
 
 // The byte with bit c set where `on`; bit c and those above it are 0 in the byte.
-pub fn with_bit(byte: u8, c: usize, on: bool) -> u8
+pub(crate) fn with_bit(byte: u8, c: usize, on: bool) -> u8
     requires { ⌜ (c < 8) × (byte < 2 ^ c) ⌝ }
     ensures { λ r. ⌜ r ≡ byte + cond on (2 ^ c) 0 ⌝ }
 {
@@ -21,7 +21,7 @@ pub fn with_bit(byte: u8, c: usize, on: bool) -> u8
 }
 
 // A channel is enabled in a frame if its bit and bit 6 are both 1.
-pub fn enabled_in(enable: u8, c: usize) -> bool
+pub(crate) fn enabled_in(enable: u8, c: usize) -> bool
     requires { ⌜ c < 8 ⌝ }
     ensures { λ r. ⌜ r ≡ enabledIn enable c ⌝ }
 {

@@ -29,7 +29,7 @@ fn in_range(values: &[u16], least: u16, most: u16) -> bool
     ok
 }
 
-pub fn codes_sound(codes: [u16; 6]) -> bool
+pub(crate) fn codes_sound(codes: [u16; 6]) -> bool
     ensures { λ r. ⌜ r ≡ codesSound codes ⌝ }
 {
     in_range(&codes, 0, MOST_CODE)

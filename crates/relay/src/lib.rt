@@ -17,7 +17,8 @@ pub struct Channel {
     pub over_latch: bool,
 }
 
-// The levels of one channel. A voltage has no pickup; its place holds 0. Internal: no entry point takes or gives one.
+// The levels of one channel. A voltage has no pickup; its place holds 0. Public because the history's definitions name it; no entry point takes or gives
+// one.
 pub struct Levels {
     pub drop: u16,
     pub pickup: u16,
@@ -97,7 +98,7 @@ fn refused_frame(relay: Relay, number: u8) -> FrameAnswer
 }
 
 impl Relay {
-    // A relay that has seen no call.
+    // A fresh relay with these settings; with zero settings, the all-zero relay.
     fn started(settings: Settings) -> Relay
         ensures { λ r. ⌜ r ≡ freshRelay settings ⌝ }
     {

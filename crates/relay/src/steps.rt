@@ -17,14 +17,15 @@ use crate::bits::enabled_in;
 use crate::bits::with_bit;
 
 // A frame that finds this age is counted.
-pub const SETTLED: u8 = 72;
+pub(crate) const SETTLED: u8 = 72;
 
 // The frames of a full loss run, and of a full over run.
-pub const LOSS_FRAMES: u8 = 16;
+pub(crate) const LOSS_FRAMES: u8 = 16;
 
-pub const OVER_FRAMES: u8 = 4;
+pub(crate) const OVER_FRAMES: u8 = 4;
 
-// A run after steps 2 and 3: kept in a frame that is not counted, otherwise grown up to its length where it is met, else 0.
+// A run after steps 2 and 3: kept in a frame that is not counted, otherwise grown up to its length where the channel is enabled and its level
+// met, else 0.
 fn run_after(counted: bool, met: bool, run: u8, len: u8) -> u8
     ensures { λ r. ⌜ r ≡ cond counted (cond met (min len (suc run)) 0) run ⌝ }
 {
@@ -133,7 +134,11 @@ impl Settings {
 }
 
 // The six windows with the frame's samples in their slot.
-pub fn windows_after(channels: [Channel; 6], slot: usize, codes: [u16; 6]) -> [phasor::Window; 6]
+pub(crate) fn windows_after(
+    channels: [Channel; 6],
+    slot: usize,
+    codes: [u16; 6],
+) -> [phasor::Window; 6]
     requires { ⌜ (slot < 8) × (codesSound codes ≡ true) ⌝ }
     ensures { λ r. ⌜ r ≡ windowsOf slot codes channels ⌝ }
 {
@@ -147,8 +152,8 @@ pub fn windows_after(channels: [Channel; 6], slot: usize, codes: [u16; 6]) -> [p
     windows
 }
 
-// Steps 2 to 5 for the six channels, at the amplitudes of their windows.
-pub fn channels_after(
+// Steps 1 to 4 for each channel, and the output byte of step 5.
+pub(crate) fn channels_after(
     old: [Channel; 6],
     settings: Settings,
     slot: usize,
@@ -179,7 +184,7 @@ pub fn channels_after(
 }
 
 // The six channels after a reset.
-pub fn channels_reset(old: [Channel; 6], mask: u8) -> [Channel; 6]
+pub(crate) fn channels_reset(old: [Channel; 6], mask: u8) -> [Channel; 6]
     ensures { λ r. ⌜ r ≡ resetsOf mask old ⌝ }
 {
     let mut channels = old;
@@ -193,14 +198,14 @@ pub fn channels_reset(old: [Channel; 6], mask: u8) -> [Channel; 6]
 }
 
 // Step 2: the age grows by 1 up to 72.
-pub fn age_after(age: u8) -> u8
+pub(crate) fn age_after(age: u8) -> u8
     ensures { λ r. ⌜ r ≡ ageAfter age ⌝ }
 {
     if age < SETTLED { age + 1 } else { age }
 }
 
 // Step 5: the slot advances, 7 back to 0.
-pub fn slot_after(slot: u8) -> u8
+pub(crate) fn slot_after(slot: u8) -> u8
     ensures { λ r. ⌜ r ≡ slotAfter slot ⌝ }
 {
     if slot < 7 { slot + 1 } else { 0 }

@@ -16,8 +16,8 @@ use Rattle.history.specs.Calls.{Call, frame, reset, accepted}
 -- What an accepted frame is to one channel: its sample, its enable bit and bit 6.
 pub record Input : Type 0 where
   pub sample : ℤ
-  pub own : Bool
-  pub device : Bool
+  pub channelBit : Bool
+  pub bit6 : Bool
 
 -- What an accepted call is to one channel. "A refused call .. has no frame number and separates nothing", and a reset that does not
 -- name the channel is nothing to it.
@@ -26,16 +26,16 @@ pub data Event : Type 0 where
   cleared : Event  -- a reset that names it
 
 abbrev pub inputOf : ℕ → List ℕ → ℕ → Input
-inputOf c codes enable = record { sample = sampleOf (getD codes c 0); own = bitOf enable c; device = bitOf enable 6 }
+inputOf c codes enable = record { sample = sampleOf (getD codes c 0); channelBit = bitOf enable c; bit6 = bitOf enable 6 }
 
 abbrev pub eventsOf : ℕ → Call → List Event
 eventsOf c (frame codes enable) = cond (accepted (frame codes enable)) (sampled (inputOf c (codes .list) enable) ∷ []) []
 eventsOf c (reset mask) = cond (accepted (reset mask) && bitOf mask c) (cleared ∷ []) []
 
 -- the calls as channel c meets them
-abbrev pub story : ℕ → List Call → List Event
-story c [] = []
-story c (call ∷ calls) = eventsOf c call ++ story c calls
+abbrev pub channelHistory : ℕ → List Call → List Event
+channelHistory c [] = []
+channelHistory c (call ∷ calls) = eventsOf c call ++ channelHistory c calls
 
 -- "Accepted frames of a fresh relay are numbered from 0": frame n stands at place n
 abbrev pub inputs : List Event → List Input
@@ -47,7 +47,7 @@ abbrev pub frames : List Event → ℕ
 frames es = length (inputs es)
 
 abbrev pub noInput : Input
-noInput = record { sample = pos 0; own = false; device = false }
+noInput = record { sample = pos 0; channelBit = false; bit6 = false }
 
 abbrev pub inputAt : List Event → ℕ → Input
 inputAt es n = getD (inputs es) n noInput
@@ -77,13 +77,13 @@ windowOf es n = table 8 (latestInSlot es n)
 abbrev pub windowAt : List Event → ℕ → List ℤ
 windowAt es n = windowOf es (suc n)
 
--- "Frame n is counted if n is 72 or more."
+-- "Frame n is counted if n is 72 or more." The history is not used here; a later request makes it matter.
 abbrev pub Counted : List Event → ℕ → Type 0
 Counted es n = 72 ≤ n
 
 -- "A channel is enabled in a frame if its bit and bit 6 are both 1."
 abbrev pub Enabled : List Event → ℕ → Type 0
-Enabled es n = T (inputAt es n .own && inputAt es n .device)
+Enabled es n = T (inputAt es n .channelBit && inputAt es n .bit6)
 
 -- Frame n can stand in a full run (a term of document 01) that begins at frame j: "counted frames with the channel enabled, none
 -- separated by an accepted reset naming it".

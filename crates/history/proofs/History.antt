@@ -1,4 +1,4 @@
--- A channel's story when one more event comes at its end: frames, resets and windows. Rests on the definitions of the history.
+-- A channel's history when one more event comes at its end: frames, resets and windows. Rests on the definitions of the history.
 use Prim.Native.Nat.{ℕ, zero, suc, _+_, _%_, _≤_, _<_, zero-le, suc-le-suc}
 use native.Mathlib.Nat.{le-of-suc-le-suc, le-refl, mod-lt}
 use native.Mathlib.Decide.{ℕ-discrete}
@@ -13,7 +13,7 @@ use lib.Seq.{getD-append-seam, ext-getD, getD-set-same, getD-set-other}
 use borrow.Author.Tests.{eq-eqb, ne-eqb}
 use Rattle.phasor.specs.Each.{table}
 use Rattle.phasor.proofs.Each.{length-table, getD-table}
-use Rattle.history.specs.Stories.{Input, Event, sampled, cleared, inputs, frames, inputAt, noInput, resets, resetsBefore, latestInSlot, windowOf, windowAt}
+use Rattle.history.specs.History.{Input, Event, sampled, cleared, inputs, frames, inputAt, noInput, resets, resetsBefore, latestInSlot, windowOf, windowAt}
 
 -- one event more
 infixl 60 _▷_
