@@ -29,6 +29,7 @@ pub fn excerpt(cells: &[u16], f: usize, n: usize) -> &[u16]
 }
 
 // The number of a refusal, 0 where the call is accepted; the largest sum, and the first frame of the first window that has it.
+#[repr(C)]
 pub struct StrongestWindow {
     pub number: u8,
     pub sum: u32,

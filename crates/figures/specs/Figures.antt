@@ -1,28 +1,17 @@
 -- Document 01, "Bench figures": every figure marked *, in its order and gathered into one list, on the definitions that the contracts cite.
 -- `figures` in proofs/Figures is its proof.
 use mathlib.Core.Path.{_≡_}
-use mathlib.Core.List.{List, [], _∷_}
-use lib.IntN.{ℤ, pos, negℤ}
-use lib.ListN.{replicate}
+use mathlib.Core.List.{[], _∷_}
+use lib.IntN.{pos, negℤ}
 use Rattle.phasor.specs.Cordic.{lastX, amplitudeOf}
+use Rattle.phasor.proofs.Figures.{zeros, hundreds, wave, inSlot0, inSlot1}
 use Rattle.capture.specs.Numbers.{refused, sevenBitBytes, sevenBit, sent}
-
--- "100, 71, 0, −71, −100, −71, 0, 71 from slot 0"
-abbrev pub wave : List ℤ
-wave = pos 100 ∷ pos 71 ∷ pos 0 ∷ negℤ (pos 71) ∷ negℤ (pos 100) ∷ negℤ (pos 71) ∷ pos 0 ∷ pos 71 ∷ []
-
--- "100 in slot 0, else zero", and "100 in slot 1"
-abbrev pub inSlot0 : List ℤ
-inSlot0 = pos 100 ∷ replicate 7 (pos 0)
-
-abbrev pub inSlot1 : List ℤ
-inSlot1 = pos 0 ∷ pos 100 ∷ replicate 6 (pos 0)
 
 pub record StarredFigures : Type 0 where
   -- "eight zero samples: m = 0"
-  pub zeros : amplitudeOf (replicate 8 (pos 0)) ≡ 0
+  pub zeros-m : amplitudeOf zeros ≡ 0
   -- "eight samples 100: m = 0"
-  pub hundreds : amplitudeOf (replicate 8 (pos 100)) ≡ 0
+  pub hundreds-m : amplitudeOf hundreds ≡ 0
   -- "m = 1603"
   pub wave-m : amplitudeOf wave ≡ 1603
   -- "x ends at 2698056, m = 400"

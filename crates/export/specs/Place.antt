@@ -1,0 +1,10 @@
+-- Where an excerpt stands in the caller's cells. Rests on the excerpt of document 01, "The capture": its part of the cells is
+-- `take length (drop start cells)`.
+use Prim.Native.Nat.{ℕ, _*_}
+use mathlib.Core.List.{List}
+use Rattle.cells.specs.Excerpt.{excerptStart, excerptFrames}
+use Rattle.export.specs.declared.Part.{Part}
+
+-- A frame is seven cells.
+abbrev pub placeOf : List ℕ → ℕ → ℕ → Part
+placeOf cells f n = record { start = 7 * excerptStart cells f n; length = 7 * excerptFrames cells f n }

@@ -1,0 +1,149 @@
+//! The proved relay for Rust programs: what `libexport.a` exports, each function in a safe wrapper.
+//!
+//! Nothing checks these declarations against the Rattle source but the tests beside them (`tests/usage.rs` holds sizes and places of
+//! fields, `tests/calls.rs` and `tests/captures.rs` hold every answer to a second implementation). Safe Rust meets all that the C header
+//! asks of a caller: slices have true lengths, lent buffers do not overlap, a `bool` is 0 or 1.
+
+/// The last eight samples of a channel beside its runs and latches.
+#[repr(C)]
+#[derive(Clone, Copy, Debug, Default, PartialEq, Eq)]
+pub struct Channel {
+    pub samples: [i16; 8],
+    pub loss_run: u8,
+    pub over_run: u8,
+    pub loss_latch: bool,
+    pub over_latch: bool,
+}
+
+/// A drop level for each channel and a pickup level for each current (channels 3, 4, 5), in sixteenths of a code.
+#[repr(C)]
+#[derive(Clone, Copy, Debug, Default, PartialEq, Eq)]
+pub struct Settings {
+    pub drop: [u16; 6],
+    pub pickup: [u16; 3],
+}
+
+/// Any value may be handed in: a relay that is not sound is refused with 2 and comes back as it was.
+#[repr(C)]
+#[derive(Clone, Copy, Debug, Default, PartialEq, Eq)]
+pub struct Relay {
+    pub channels: [Channel; 6],
+    pub age: u8,
+    pub slot: u8,
+    pub settings: Settings,
+}
+
+/// `number` is 0, or the number of the refusal, here and in the other answers.
+#[repr(C)]
+#[derive(Clone, Copy, Debug, PartialEq, Eq)]
+pub struct FreshAnswer {
+    pub relay: Relay,
+    pub number: u8,
+}
+
+#[repr(C)]
+#[derive(Clone, Copy, Debug, PartialEq, Eq)]
+pub struct FrameAnswer {
+    pub relay: Relay,
+    pub number: u8,
+    pub amplitudes: [u16; 6],
+    pub output: u8,
+}
+
+#[repr(C)]
+#[derive(Clone, Copy, Debug, PartialEq, Eq)]
+pub struct ResetAnswer {
+    pub relay: Relay,
+    pub number: u8,
+}
+
+/// `count` is in frames where the call made frames and in bytes where it made bytes.
+#[repr(C)]
+#[derive(Clone, Copy, Debug, PartialEq, Eq)]
+pub struct Answer {
+    pub number: u8,
+    pub count: usize,
+}
+
+/// The largest sum of eight squared samples of successive frames, and the first frame where it occurs.
+#[repr(C)]
+#[derive(Clone, Copy, Debug, PartialEq, Eq)]
+pub struct StrongestWindow {
+    pub number: u8,
+    pub sum: u32,
+    pub frame: usize,
+}
+
+/// The functions as the archive has them. An array does not pass the C boundary by value, nor does a part of a slice come back through
+/// it: a struct that holds the array, and start and length, stand in for them.
+mod raw {
+    use super::*;
+
+    #[repr(C)]
+    pub struct Codes {
+        pub codes: [u16; 6],
+    }
+
+    #[repr(C)]
+    pub struct Part {
+        pub start: usize,
+        pub length: usize,
+    }
+
+    extern "C" {
+        pub fn p6k_fresh(settings: Settings) -> FreshAnswer;
+        pub fn p6k_frame(relay: Relay, codes: Codes, enable: u8) -> FrameAnswer;
+        pub fn p6k_reset(relay: Relay, mask: u8) -> ResetAnswer;
+        pub fn p6k_read(bytes: *const u8, bytes_length: usize, cells: *mut u16, cells_length: usize) -> Answer;
+        pub fn p6k_write(cells: *const u16, cells_length: usize, bytes: *mut u8, bytes_length: usize) -> Answer;
+        pub fn p6k_excerpt(cells: *const u16, cells_length: usize, frame: usize, frames: usize) -> Part;
+        pub fn p6k_strongest(cells: *const u16, cells_length: usize, channel: usize) -> StrongestWindow;
+        pub fn p6k_report(capture: *const u8, capture_length: usize, text: *mut u8, text_length: usize) -> usize;
+    }
+}
+
+impl Relay {
+    /// A fresh relay, or with 1 the all-zero one.
+    pub fn fresh(settings: Settings) -> FreshAnswer {
+        unsafe { raw::p6k_fresh(settings) }
+    }
+
+    /// One frame: six codes in channel order and the enable byte.
+    pub fn frame(self, codes: [u16; 6], enable: u8) -> FrameAnswer {
+        unsafe { raw::p6k_frame(self, raw::Codes { codes }, enable) }
+    }
+
+    /// Clears runs and latches of the channels that bits 0 to 5 name.
+    pub fn reset(self, mask: u8) -> ResetAnswer {
+        unsafe { raw::p6k_reset(self, mask) }
+    }
+}
+
+/// Reads a capture into the front of the cells; the count is in frames, seven cells each.
+pub fn read(bytes: &[u8], cells: &mut [u16]) -> Answer {
+    unsafe { raw::p6k_read(bytes.as_ptr(), bytes.len(), cells.as_mut_ptr(), cells.len()) }
+}
+
+/// Writes the cells as a capture into the front of the bytes; the count is in bytes.
+pub fn write(cells: &[u16], bytes: &mut [u8]) -> Answer {
+    unsafe { raw::p6k_write(cells.as_ptr(), cells.len(), bytes.as_mut_ptr(), bytes.len()) }
+}
+
+/// The caller's own cells from a frame on, for so many frames; the empty part at the start where they do not lie within the cells.
+pub fn excerpt(cells: &[u16], frame: usize, frames: usize) -> &[u16] {
+    let part = unsafe { raw::p6k_excerpt(cells.as_ptr(), cells.len(), frame, frames) };
+    &cells[part.start..part.start + part.length]
+}
+
+pub fn strongest(cells: &[u16], channel: usize) -> StrongestWindow {
+    unsafe { raw::p6k_strongest(cells.as_ptr(), cells.len(), channel) }
+}
+
+/// The room that holds every output of `report`.
+pub const REPORT_ROOM: usize = 184_332;
+
+/// The bench program's whole output for a capture, into the front of the text; the answer is its length in bytes. A text shorter than
+/// `REPORT_ROOM` is left as it was, and the answer is 0.
+pub fn report(capture: &[u8], text: &mut [u8]) -> usize {
+    unsafe { raw::p6k_report(capture.as_ptr(), capture.len(), text.as_mut_ptr(), text.len()) }
+}

@@ -1,0 +1,88 @@
+//! The built bench program on the table of stored captures: its output is the stored text, byte for byte, also where the input comes in
+//! pieces. The texts were made by the second implementation, never by the program under test.
+
+use std::io::Write;
+use std::path::{Path, PathBuf};
+use std::process::{Command, Stdio};
+use std::time::Duration;
+
+fn root() -> PathBuf {
+    Path::new(env!("CARGO_MANIFEST_DIR")).join("..")
+}
+
+/// Every case's name, capture and expected text.
+fn cases() -> Vec<(String, Vec<u8>, Vec<u8>)> {
+    let mut cases = Vec::new();
+    for entry in std::fs::read_dir(root().join("reference/cases")).unwrap() {
+        let path = entry.unwrap().path();
+        if path.extension().is_some_and(|extension| extension == "p6k") {
+            let name = path.file_stem().unwrap().to_str().unwrap().to_string();
+            let text = std::fs::read(path.with_extension("txt")).unwrap();
+            cases.push((name, std::fs::read(&path).unwrap(), text));
+        }
+    }
+    cases.sort();
+    cases
+}
+
+/// What the program writes where its input comes in pieces of so many bytes, with a pause after each of the first `pauses`.
+fn bench(input: &[u8], piece: usize, pauses: usize) -> Vec<u8> {
+    let program = root().join("target/bin/bench");
+    let mut child = Command::new(&program)
+        .stdin(Stdio::piped())
+        .stdout(Stdio::piped())
+        .spawn()
+        .unwrap_or_else(|error| panic!("{}: {error}: run `rt check bench` first", program.display()));
+    let mut stdin = child.stdin.take().unwrap();
+    let pieces: Vec<Vec<u8>> = input.chunks(piece).map(<[u8]>::to_vec).collect();
+    // A thread, so that neither side waits on a full pipe. The program may stop reading early: it wants no more than 53,254 bytes.
+    let feeder = std::thread::spawn(move || {
+        for (k, piece) in pieces.iter().enumerate() {
+            if stdin.write_all(piece).is_err() {
+                return;
+            }
+            if k < pauses {
+                std::thread::sleep(Duration::from_millis(2));
+            }
+        }
+    });
+    let output = child.wait_with_output().unwrap();
+    feeder.join().unwrap();
+    assert!(output.status.success());
+    output.stdout
+}
+
+fn check(name: &str, input: &[u8], piece: usize, pauses: usize, expected: &[u8]) {
+    let text = bench(input, piece, pauses);
+    assert!(text == expected, "{name}, in pieces of {piece}: {}", String::from_utf8_lossy(&text[..text.len().min(300)]));
+}
+
+#[test]
+fn every_case() {
+    let cases = cases();
+    assert!(cases.len() >= 390, "the table has {} cases", cases.len());
+    for (name, capture, text) in &cases {
+        check(name, capture, usize::MAX, 0, text);
+        assert_eq!(reference::bench_text(capture), *text, "{name}: make the texts again");
+    }
+}
+
+/// A short read is not the end of input: each byte comes alone, or the capture comes in a few pieces.
+#[test]
+fn in_pieces() {
+    for (name, capture, text) in &cases() {
+        match name.as_str() {
+            "example" | "small" | "frames-0001" | "8-last-byte-missing" | "10-tail-00-1" => check(name, capture, 1, usize::MAX, text),
+            "frames-0090" | "level-3413" | "noise-3" => check(name, capture, 7, 100, text),
+            "frames-4096" | "longest" | "10-longest-and-2000" => check(name, capture, 4001, usize::MAX, text),
+            _ => {}
+        }
+    }
+}
+
+/// Document 01's own example.
+#[test]
+fn example() {
+    let capture = [0x50, 0x36, 0x4B, 0x01, 0x7F, 0xC8, 0x01, 0, 0, 0, 0, 0];
+    assert_eq!(bench(&capture, usize::MAX, 0), b"0 400 0 0 0 0 0 00\nframes 1\n");
+}

@@ -1,0 +1,40 @@
+//! What the differential tests share: the flags and the tally of the numbers that were answered.
+
+use reference::prng::Prng;
+
+/// `--long`: twenty times as much. `--seed N`: other random calls; the gate's are those of seed 1.
+pub struct Flags {
+    pub seed: u64,
+    pub times: u64,
+}
+
+impl Flags {
+    pub fn given() -> Flags {
+        let words: Vec<String> = std::env::args().collect();
+        let seed = words.iter().position(|word| word == "--seed").map(|at| words[at + 1].parse().expect("--seed N"));
+        let times = if words.iter().any(|word| word == "--long") { 20 } else { 1 };
+        Flags { seed: seed.unwrap_or(1), times }
+    }
+
+    /// A generator for one part of a test: no part's numbers hang on how many another part drew.
+    pub fn prng(&self, part: u64) -> Prng {
+        Prng(self.seed.wrapping_mul(1000).wrapping_add(part))
+    }
+}
+
+/// How often each number was answered.
+#[derive(Default)]
+pub struct Numbers([u64; 14]);
+
+impl Numbers {
+    pub fn count(&mut self, number: u8) {
+        self.0[usize::from(number)] += 1;
+    }
+
+    /// Prints the tally of the numbers, and fails where one of them came fewer than 100 times.
+    pub fn show(&self, numbers: std::ops::RangeInclusive<usize>) {
+        let tally: Vec<String> = numbers.clone().map(|k| format!("{k}: {}", self.0[k])).collect();
+        println!("  accepted {}, refused by {}", self.0[0], tally.join(", "));
+        assert!(numbers.clone().all(|k| self.0[k] >= 100), "a refusal came fewer than 100 times");
+    }
+}

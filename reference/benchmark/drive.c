@@ -1,0 +1,131 @@
+/* drive WHAT CAPTURE TIMES: runs frames through a fresh relay (frame), reads the capture (read), writes it (write), or reads it and runs its
+   frames (run), so many times. drive generated FRAMES: what crates/relay_check does, over frames of the same small generator.
+   With -DARCHIVE the proved archive does the work, through its C interface; otherwise the second implementation in C, compiled into this
+   unit. */
+#include <stdio.h>
+#include <stdlib.h>
+#include <string.h>
+
+#ifdef ARCHIVE
+#include "../../host/c/export.h"
+
+static size_t read_capture(const uint8_t *bytes, size_t size, uint16_t *cells, size_t room)
+{
+    return p6k_read(bytes, size, cells, room).count;
+}
+
+static size_t write_capture(const uint16_t *cells, size_t size, uint8_t *bytes, size_t room)
+{
+    return p6k_write(cells, size, bytes, room).count;
+}
+
+typedef p6k_relay relay_state;
+
+static relay_state fresh(void)
+{
+    static const p6k_settings settings = {{819, 819, 819, 819, 819, 819}, {3413, 3413, 3413}};
+    return p6k_fresh(settings).relay;
+}
+
+static unsigned long step(relay_state *relay, const uint16_t *cells, uint8_t enable)
+{
+    p6k_codes codes;
+    memcpy(codes.codes, cells, sizeof codes.codes);
+    p6k_frame_answer answer = p6k_frame(*relay, codes, enable);
+    *relay = answer.relay;
+    unsigned long sum = answer.output;
+    for (int c = 0; c < 6; c++)
+        sum += answer.amplitudes[c];
+    return sum;
+}
+#else
+#include "../c/relay.c"
+
+static size_t read_capture(const uint8_t *bytes, size_t size, uint16_t *cells, size_t room)
+{
+    size_t count;
+    capture_read(bytes, size, cells, room, &count);
+    return count;
+}
+
+static size_t write_capture(const uint16_t *cells, size_t size, uint8_t *bytes, size_t room)
+{
+    size_t count;
+    capture_write(cells, size, bytes, room, &count);
+    return count;
+}
+
+typedef struct relay relay_state;
+
+static relay_state fresh(void)
+{
+    static const uint16_t drop[6] = {819, 819, 819, 819, 819, 819}, pickup[3] = {3413, 3413, 3413};
+    struct relay relay;
+    relay_fresh(&relay, drop, pickup);
+    return relay;
+}
+
+static unsigned long step(relay_state *relay, const uint16_t *cells, uint8_t enable)
+{
+    struct framed answer;
+    relay_frame(relay, cells, enable, &answer);
+    unsigned long sum = answer.output;
+    for (int c = 0; c < 6; c++)
+        sum += answer.amplitudes[c];
+    return sum;
+}
+#endif
+
+static unsigned long run(const uint16_t *cells, size_t frames)
+{
+    relay_state relay = fresh();
+    unsigned long sum = 0;
+    for (size_t n = 0; n < frames; n++, cells += 7)
+        sum += step(&relay, cells, (uint8_t)cells[6]);
+    return sum;
+}
+
+static unsigned long generated(uint64_t frames)
+{
+    relay_state relay = fresh();
+    uint64_t state = 1;
+    unsigned long sum = 0;
+    for (uint64_t n = 0; n < frames; n++) {
+        uint16_t codes[6];
+        for (int c = 0; c < 6; c++) {
+            state = (state * 1103515245 + 12345) % 2147483648;
+            codes[c] = (uint16_t)((state >> 16) % 1024);
+        }
+        sum += step(&relay, codes, (uint8_t)(127 - (n >> 6) % 64));
+    }
+    return sum;
+}
+
+static uint8_t capture[53254], bytes[53254];
+static uint16_t cells[7 * 4096];
+
+int main(int words, char **word)
+{
+    if (words == 3 && strcmp(word[1], "generated") == 0) {
+        printf("%lu\n", generated(strtoull(word[2], NULL, 10)));
+        return 0;
+    }
+    FILE *file = words == 4 ? fopen(word[2], "rb") : NULL;
+    if (!file)
+        return 1;
+    size_t size = fread(capture, 1, sizeof capture, file);
+    size_t frames = read_capture(capture, size, cells, sizeof cells / sizeof *cells);
+    unsigned long sum = 0;
+    for (long times = atol(word[3]); times > 0; times--) {
+        if (strcmp(word[1], "frame") == 0)
+            sum += run(cells, frames);
+        else if (strcmp(word[1], "read") == 0)
+            sum += read_capture(capture, size, cells, sizeof cells / sizeof *cells);
+        else if (strcmp(word[1], "write") == 0)
+            sum += write_capture(cells, 7 * frames, bytes, sizeof bytes);
+        else
+            sum += run(cells, read_capture(capture, size, cells, sizeof cells / sizeof *cells));
+    }
+    printf("%lu\n", sum);
+    return 0;
+}

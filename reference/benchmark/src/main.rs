@@ -1,0 +1,74 @@
+//! `drive WHAT CAPTURE TIMES`: the same work as drive.c, by the second implementation in Rust. `drive bench`: its bench program.
+//! `drive generated FRAMES`: what crates/relay_check does, over frames of the same small generator; its stored output is made by this.
+//! `drive make FRAMES CAPTURE`: the capture of the first frames of another.
+
+use reference::bench::SETTINGS;
+use reference::capture::{CELLS, LONGEST, MOST_FRAMES};
+use reference::{bench_text, frame, fresh, read, write, Relay};
+use std::io::{Read, Write};
+
+/// One frame; the sum keeps the work from being dropped and is the same in every language.
+fn step(relay: &mut Relay, codes: [u16; 6], enable: u8) -> u64 {
+    let answer = frame(*relay, codes, enable);
+    *relay = answer.relay;
+    u64::from(answer.output) + answer.amplitudes.iter().map(|&m| u64::from(m)).sum::<u64>()
+}
+
+fn run(cells: &[u16]) -> u64 {
+    let mut relay = fresh(SETTINGS).relay;
+    cells.chunks_exact(CELLS).map(|cells| step(&mut relay, std::array::from_fn(|c| cells[c]), cells[6] as u8)).sum()
+}
+
+fn generated(frames: u64) -> u64 {
+    let mut relay = fresh(SETTINGS).relay;
+    let mut state = 1u64;
+    let mut code = || {
+        state = (state * 1103515245 + 12345) % 2147483648;
+        ((state >> 16) % 1024) as u16
+    };
+    (0..frames).map(|n| step(&mut relay, std::array::from_fn(|_| code()), (127 - (n >> 6) % 64) as u8)).sum()
+}
+
+fn drive(what: &str, capture: &[u8], times: u64) -> u64 {
+    let mut cells = vec![0; CELLS * MOST_FRAMES];
+    let mut bytes = vec![0; LONGEST];
+    let frames = read(capture, &mut cells).count;
+    let mut sum = 0;
+    for _ in 0..times {
+        sum += match what {
+            "frame" => run(&cells[..CELLS * frames]),
+            "read" => read(capture, &mut cells).count as u64,
+            "write" => write(&cells[..CELLS * frames], &mut bytes).count as u64,
+            "run" => {
+                let frames = read(capture, &mut cells).count;
+                run(&cells[..CELLS * frames])
+            }
+            _ => panic!("frame, read, write or run"),
+        };
+    }
+    sum
+}
+
+fn main() {
+    let arguments: Vec<String> = std::env::args().skip(1).collect();
+    let words: Vec<&str> = arguments.iter().map(String::as_str).collect();
+    let out = match words[..] {
+        ["bench"] => {
+            let mut capture = Vec::new();
+            std::io::stdin().read_to_end(&mut capture).unwrap();
+            bench_text(&capture)
+        }
+        ["generated", frames] => format!("{}\n", generated(frames.parse().unwrap())).into_bytes(),
+        ["make", frames, path] => {
+            let mut cells = vec![0; CELLS * MOST_FRAMES];
+            let mut bytes = vec![0; LONGEST];
+            read(&std::fs::read(path).unwrap(), &mut cells);
+            let size = write(&cells[..CELLS * frames.parse::<usize>().unwrap()], &mut bytes).count;
+            bytes.truncate(size);
+            bytes
+        }
+        [what, path, times] => format!("{}\n", drive(what, &std::fs::read(path).unwrap(), times.parse().unwrap())).into_bytes(),
+        _ => panic!("drive WHAT CAPTURE TIMES | bench | generated FRAMES | make FRAMES CAPTURE"),
+    };
+    std::io::stdout().write_all(&out).unwrap();
+}

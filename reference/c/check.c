@@ -1,0 +1,201 @@
+/* Reads the lines of `reference trace` on standard input, makes each call with
+   the C functions and compares number, relay, amplitudes, cells and bytes. */
+#include "relay.h"
+
+#include <stdio.h>
+#include <stdlib.h>
+#include <string.h>
+
+enum { MOST = 4000, OLD = 0xEE };
+
+static long line = 1;
+
+static void differs(const char *what)
+{
+    printf("line %ld: %s differs\n", line, what);
+    exit(1);
+}
+
+static long take(void)
+{
+    long number;
+    if (scanf("%ld", &number) != 1)
+        differs("shape of the line");
+    return number;
+}
+
+static size_t take_size(void)
+{
+    long size = take();
+    if (size < 0 || size > MOST)
+        differs("size");
+    return (size_t)size;
+}
+
+static void take_relay(struct relay *relay)
+{
+    memset(relay, 0, sizeof *relay);
+    for (int c = 0; c < CHANNELS; c++)
+        relay->drop[c] = (uint16_t)take();
+    for (int c = 0; c < CURRENTS; c++)
+        relay->pickup[c] = (uint16_t)take();
+    relay->age = (uint8_t)take();
+    relay->slot = (uint8_t)take();
+    for (int c = 0; c < CHANNELS; c++) {
+        struct channel *channel = &relay->channels[c];
+        for (int k = 0; k < SLOTS; k++)
+            channel->samples[k] = (int16_t)take();
+        channel->loss_run = (uint8_t)take();
+        channel->over_run = (uint8_t)take();
+        channel->loss_latch = take() != 0;
+        channel->over_latch = take() != 0;
+    }
+}
+
+static void same_number(long number)
+{
+    if (take() != number)
+        differs("number");
+}
+
+static void same_relay(const struct relay *relay)
+{
+    /* The structs have no padding between or after their fields. */
+    _Static_assert(sizeof(struct channel) == 20 && sizeof(struct relay) == 140, "no padding");
+    struct relay expected;
+    take_relay(&expected);
+    if (memcmp(relay, &expected, sizeof expected) != 0)
+        differs("relay");
+}
+
+static void check_fresh(void)
+{
+    uint16_t drop[CHANNELS], pickup[CURRENTS];
+    struct relay relay;
+    for (int c = 0; c < CHANNELS; c++)
+        drop[c] = (uint16_t)take();
+    for (int c = 0; c < CURRENTS; c++)
+        pickup[c] = (uint16_t)take();
+    memset(&relay, 1, sizeof relay);
+    same_number(relay_fresh(&relay, drop, pickup));
+    same_relay(&relay);
+}
+
+static void check_frame(void)
+{
+    struct relay relay;
+    struct framed answer = {{9, 9, 9, 9, 9, 9}, 9};
+    uint16_t codes[CHANNELS];
+    take_relay(&relay);
+    for (int c = 0; c < CHANNELS; c++)
+        codes[c] = (uint16_t)take();
+    uint8_t enable = (uint8_t)take();
+    same_number(relay_frame(&relay, codes, enable, &answer));
+    same_relay(&relay);
+    for (int c = 0; c < CHANNELS; c++)
+        if (take() != answer.amplitudes[c])
+            differs("amplitude");
+    if (take() != answer.output)
+        differs("output");
+}
+
+static void check_reset(void)
+{
+    struct relay relay;
+    take_relay(&relay);
+    uint8_t mask = (uint8_t)take();
+    same_number(relay_reset(&relay, mask));
+    same_relay(&relay);
+}
+
+/* Buffers are of the exact size, so that a sanitizer sees a step too far. */
+static void *exactly(size_t size)
+{
+    void *memory = malloc(size ? size : 1);
+    if (!memory)
+        differs("memory");
+    return memory;
+}
+
+static uint8_t *take_bytes(size_t *size)
+{
+    *size = take_size();
+    uint8_t *bytes = exactly(*size);
+    for (size_t i = 0; i < *size; i++)
+        bytes[i] = (uint8_t)take();
+    return bytes;
+}
+
+static uint16_t *take_cells(size_t *size)
+{
+    *size = take_size();
+    uint16_t *cells = exactly(*size * sizeof *cells);
+    for (size_t i = 0; i < *size; i++)
+        cells[i] = (uint16_t)take();
+    return cells;
+}
+
+static void check_read(void)
+{
+    size_t size, count = 9;
+    uint8_t *bytes = take_bytes(&size);
+    size_t room = take_size();
+    uint16_t *cells = exactly(room * sizeof *cells);
+    for (size_t i = 0; i < room; i++)
+        cells[i] = OLD;
+    same_number(capture_read(bytes, size, cells, room, &count));
+    same_number((long)count);
+    for (size_t i = 0; i < room; i++)
+        if (take() != cells[i])
+            differs("cell");
+    free(bytes);
+    free(cells);
+}
+
+static void check_write(void)
+{
+    size_t size, count = 9;
+    uint16_t *cells = take_cells(&size);
+    size_t room = take_size();
+    uint8_t *bytes = exactly(room);
+    memset(bytes, OLD, room);
+    same_number(capture_write(cells, size, bytes, room, &count));
+    same_number((long)count);
+    for (size_t i = 0; i < room; i++)
+        if (take() != bytes[i])
+            differs("byte");
+    free(cells);
+    free(bytes);
+}
+
+static void check_strongest(void)
+{
+    size_t size, frame = 9;
+    uint32_t sum = 9;
+    uint16_t *cells = take_cells(&size);
+    unsigned channel = (unsigned)take();
+    same_number(capture_strongest(cells, size, channel, &sum, &frame));
+    same_number((long)sum);
+    same_number((long)frame);
+    free(cells);
+}
+
+int main(void)
+{
+    int kind;
+    for (; scanf("%d", &kind) == 1; line++) {
+        switch (kind) {
+        case 1: check_fresh(); break;
+        case 2: check_frame(); break;
+        case 3: check_reset(); break;
+        case 4: check_read(); break;
+        case 5: check_write(); break;
+        case 6: check_strongest(); break;
+        default: differs("kind");
+        }
+    }
+    if (!feof(stdin) || line == 1)
+        differs("end");
+    printf("%ld calls agree\n", line - 1);
+    return 0;
+}

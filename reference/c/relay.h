@@ -1,0 +1,77 @@
+/* Six-channel phasor relay, after document 01. Every function answers the
+   document's refusal number, 0 if the call is accepted. */
+#ifndef RELAY_H
+#define RELAY_H
+
+#include <stdbool.h>
+#include <stddef.h>
+#include <stdint.h>
+
+enum {
+    CHANNELS = 6,
+    FIRST_CURRENT = 3,
+    CURRENTS = 3,
+    SLOTS = 8,
+    HIGHEST_LEVEL = 10700,
+    FULL_AGE = 72,
+    FULL_LOSS_RUN = 16,
+    FULL_OVER_RUN = 4,
+    FRAME_CELLS = 7,
+    MOST_FRAMES = 4096,
+    LONGEST_CAPTURE = 53253
+};
+
+enum {
+    REFUSED_SETTING = 1,
+    REFUSED_NOT_SOUND,
+    REFUSED_CODE,
+    REFUSED_ENABLE,
+    REFUSED_MASK,
+    REFUSED_MARK,
+    REFUSED_SECOND_BYTE,
+    REFUSED_ENDS_EARLY,
+    REFUSED_RANGE,
+    REFUSED_TAIL,
+    REFUSED_NO_ROOM,
+    REFUSED_SHAPE,
+    REFUSED_TOO_FEW
+};
+
+struct channel {
+    int16_t samples[SLOTS];
+    uint8_t loss_run;
+    uint8_t over_run;
+    bool loss_latch;
+    bool over_latch;
+};
+
+struct relay {
+    struct channel channels[CHANNELS];
+    uint16_t drop[CHANNELS];
+    uint16_t pickup[CURRENTS];
+    uint8_t age;
+    uint8_t slot;
+};
+
+struct framed {
+    uint16_t amplitudes[CHANNELS];
+    uint8_t output;
+};
+
+/* Refused, the relay becomes all zero. */
+int relay_fresh(struct relay *relay, const uint16_t drop[CHANNELS], const uint16_t pickup[CURRENTS]);
+
+/* Refused, the relay stays as it is and the answer is all zero. */
+int relay_frame(struct relay *relay, const uint16_t codes[CHANNELS], uint8_t enable, struct framed *answer);
+
+int relay_reset(struct relay *relay, uint8_t mask);
+
+/* Refused, cells or bytes stay as they are and the count is 0. Reading counts
+   frames, writing counts bytes. */
+int capture_read(const uint8_t *bytes, size_t size, uint16_t *cells, size_t room, size_t *count);
+int capture_write(const uint16_t *cells, size_t size, uint8_t *bytes, size_t room, size_t *count);
+
+/* Refused, sum and frame are 0. */
+int capture_strongest(const uint16_t *cells, size_t size, unsigned channel, uint32_t *sum, size_t *frame);
+
+#endif

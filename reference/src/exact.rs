@@ -1,0 +1,53 @@
+//! The exact amplitude Z, ordered against whole numbers without rounding.
+
+use crate::amplitude::Window;
+
+/// Z ≥ 0 with Z² = P + Q√2.
+#[derive(Clone, Copy, Debug, PartialEq, Eq)]
+pub struct Exact {
+    pub p: i128,
+    pub q: i128,
+}
+
+impl Exact {
+    pub fn of(window: &Window) -> Exact {
+        let s = window.map(i128::from);
+        let a = s[0] - s[4];
+        let b = s[1] - s[3] - s[5] + s[7];
+        let c = s[2] - s[6];
+        let d = s[1] + s[3] - s[5] - s[7];
+        Exact {
+            p: 16 * (a * a + c * c) + 8 * (b * b + d * d),
+            q: 16 * (a * b + c * d),
+        }
+    }
+
+    /// Z ≥ t.
+    pub fn at_least(&self, t: i64) -> bool {
+        let t = i128::from(t);
+        t < 0 || order_rule(self.p - t * t, self.q)
+    }
+
+    /// Z ≤ t: "the same rule with −R and −Q".
+    pub fn at_most(&self, t: i64) -> bool {
+        let t = i128::from(t);
+        t >= 0 && order_rule(-(self.p - t * t), -self.q)
+    }
+
+    /// "Z < t means that Z ≥ t fails."
+    pub fn below(&self, t: i64) -> bool {
+        !self.at_least(t)
+    }
+
+    /// "Within 2" means Z ≥ m − 2 and Z ≤ m + 2.
+    pub fn within_2(&self, m: i64) -> bool {
+        self.at_least(m - 2) && self.at_most(m + 2)
+    }
+}
+
+/// R + Q√2 ≥ 0, by the three cases of the document.
+fn order_rule(r: i128, q: i128) -> bool {
+    (r >= 0 && q >= 0)
+        || (r >= 0 && q < 0 && r * r >= 2 * q * q)
+        || (r < 0 && q > 0 && 2 * q * q >= r * r)
+}

@@ -1,0 +1,167 @@
+//! The latch history of demand 3, read from the list of calls and not by
+//! stepping a relay. Nothing here uses `relay::frame` or `relay::reset`.
+
+use crate::amplitude::{amplitude, sample, Window};
+use crate::exact::Exact;
+use crate::relay::{
+    frame_refusal, is_enabled, reset_refusal, Settings, FIRST_CURRENT, FULL_AGE, FULL_LOSS_RUN,
+    FULL_OVER_RUN,
+};
+
+#[derive(Clone, Copy, Debug, PartialEq, Eq)]
+pub enum Call {
+    Frame { codes: [u16; 6], enable: u8 },
+    Reset { mask: u8 },
+}
+
+#[derive(Clone, Copy, Debug, PartialEq, Eq)]
+pub enum Latch {
+    Loss,
+    Over,
+}
+
+impl Latch {
+    pub fn full_run(self) -> usize {
+        match self {
+            Latch::Loss => usize::from(FULL_LOSS_RUN),
+            Latch::Over => usize::from(FULL_OVER_RUN),
+        }
+    }
+}
+
+/// An accepted frame; its number is its place among the accepted frames.
+#[derive(Clone, Copy, Debug)]
+pub struct AcceptedFrame {
+    /// Its place in the list of calls.
+    pub place: usize,
+    pub enable: u8,
+    pub m: [i64; 6],
+    pub z: [Exact; 6],
+}
+
+#[derive(Clone, Copy, Debug)]
+pub struct AcceptedReset {
+    pub place: usize,
+    pub mask: u8,
+}
+
+#[derive(Clone, Debug)]
+pub struct History {
+    pub settings: Settings,
+    pub frames: Vec<AcceptedFrame>,
+    pub resets: Vec<AcceptedReset>,
+}
+
+impl History {
+    /// The history of a list of calls on a fresh relay made with `settings`.
+    /// "A refused call changes nothing, has no frame number and separates
+    /// nothing", so it leaves no trace here.
+    pub fn of(settings: Settings, calls: &[Call]) -> History {
+        let mut codes_of_frame: Vec<[u16; 6]> = Vec::new();
+        let mut frames = Vec::new();
+        let mut resets = Vec::new();
+        for (place, call) in calls.iter().enumerate() {
+            match *call {
+                Call::Frame { codes, enable } if frame_refusal(&codes, enable) == 0 => {
+                    codes_of_frame.push(codes);
+                    let n = frames.len();
+                    let windows: [Window; 6] =
+                        std::array::from_fn(|c| window_at(&codes_of_frame, n, c));
+                    frames.push(AcceptedFrame {
+                        place,
+                        enable,
+                        m: windows.map(|w| amplitude(&w)),
+                        z: windows.map(|w| Exact::of(&w)),
+                    });
+                }
+                Call::Reset { mask } if reset_refusal(mask) == 0 => {
+                    resets.push(AcceptedReset { place, mask });
+                }
+                _ => {}
+            }
+        }
+        History { settings, frames, resets }
+    }
+
+    /// Whether the frames `first` and following make a full run: "16 (loss) or
+    /// 4 (over) successive counted frames with the channel enabled, none
+    /// separated by an accepted reset naming it". "Frame n is counted if n is
+    /// 72 or more."
+    pub fn is_full_run(&self, latch: Latch, channel: usize, first: usize) -> bool {
+        let end = first + latch.full_run();
+        if first < usize::from(FULL_AGE) || end > self.frames.len() {
+            return false;
+        }
+        let run = &self.frames[first..end];
+        let span = run[0].place..run[run.len() - 1].place;
+        run.iter().all(|frame| is_enabled(frame.enable, channel))
+            && !self.resets_naming(channel).any(|place| span.contains(&place))
+    }
+
+    /// "A full run meets its level if m < drop (loss) or m ≥ pickup (over) in
+    /// each of its frames."
+    pub fn meets_level(&self, latch: Latch, channel: usize, first: usize) -> bool {
+        let level = self.level(latch, channel);
+        self.frames[first..first + latch.full_run()].iter().all(|frame| match latch {
+            Latch::Loss => frame.m[channel] < level,
+            Latch::Over => frame.m[channel] >= level,
+        })
+    }
+
+    /// Whether the latch is on after the first `calls` calls of the list: "a
+    /// full run that meets its level lies wholly after the last accepted reset
+    /// naming the channel, or after the start if there is none". A voltage has
+    /// no over latch.
+    pub fn is_on(&self, latch: Latch, channel: usize, calls: usize) -> bool {
+        if latch == Latch::Over && channel < FIRST_CURRENT {
+            return false;
+        }
+        let last_reset = self.resets_naming(channel).filter(|&place| place < calls).last();
+        let lies_between = |first: usize| {
+            let run = &self.frames[first..first + latch.full_run()];
+            last_reset.map_or(true, |place| place < run[0].place) && run[run.len() - 1].place < calls
+        };
+        (0..self.frames.len()).any(|first| {
+            self.is_full_run(latch, channel, first)
+                && self.meets_level(latch, channel, first)
+                && lies_between(first)
+        })
+    }
+
+    /// The output byte of accepted frame n: "bit c is 1 exactly when channel c
+    /// has a latch on by this rule after frame n and is enabled in it".
+    pub fn output(&self, n: usize) -> u8 {
+        let frame = &self.frames[n];
+        let after = frame.place + 1;
+        (0..6)
+            .filter(|&c| {
+                is_enabled(frame.enable, c)
+                    && (self.is_on(Latch::Loss, c, after) || self.is_on(Latch::Over, c, after))
+            })
+            .map(|c| 1 << c)
+            .sum()
+    }
+
+    /// The drop or pickup level. A voltage has no pickup level.
+    pub fn level(&self, latch: Latch, channel: usize) -> i64 {
+        i64::from(match latch {
+            Latch::Loss => self.settings.drop[channel],
+            Latch::Over => self.settings.pickup[channel - FIRST_CURRENT],
+        })
+    }
+
+    fn resets_naming(&self, channel: usize) -> impl Iterator<Item = usize> + '_ {
+        self.resets.iter().filter(move |r| r.mask >> channel & 1 == 1).map(|r| r.place)
+    }
+}
+
+/// "At accepted frame n a channel's window has in slot k the sample of the
+/// latest accepted frame up to n whose number mod 8 is k, 0 if there is none."
+fn window_at(codes_of_frame: &[[u16; 6]], n: usize, channel: usize) -> Window {
+    std::array::from_fn(|k| {
+        (0..=n)
+            .rev()
+            .find(|number| number % 8 == k)
+            .map_or(0, |number| sample(codes_of_frame[number][channel]))
+    })
+}

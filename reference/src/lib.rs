@@ -1,0 +1,41 @@
+//! Six-channel phasor relay: a second, independent implementation.
+//!
+//! Written from documents 01 and 90 alone, by hands that have seen nothing of
+//! the Rattle code or its specifications. It is written for reading and not
+//! for speed. Quotations are from document 01; NOTES.md lists the decisions
+//! taken where its words could be read in two ways.
+
+pub mod amplitude;
+pub mod bench;
+pub mod capture;
+pub mod cases;
+pub mod exact;
+pub mod history;
+pub mod prng;
+pub mod relay;
+pub mod trace;
+
+pub use amplitude::{amplitude, cordic, re_im, sample, Window};
+pub use bench::bench_text;
+pub use capture::{excerpt, excerpt_place, read, strongest, write, Outcome, Strongest};
+pub use exact::Exact;
+pub use history::{Call, History, Latch};
+pub use relay::{frame, fresh, is_sound, reset, Channel, Framed, Fresh, Relay, Reset, Settings};
+
+/// The refusals by number. An accepted call's number is 0.
+pub mod refusal {
+    pub const ACCEPTED: u8 = 0;
+    pub const SETTING: u8 = 1;
+    pub const NOT_SOUND: u8 = 2;
+    pub const CODE: u8 = 3;
+    pub const ENABLE: u8 = 4;
+    pub const MASK: u8 = 5;
+    pub const MARK: u8 = 6;
+    pub const SECOND_BYTE: u8 = 7;
+    pub const ENDS_EARLY: u8 = 8;
+    pub const RANGE: u8 = 9;
+    pub const TAIL: u8 = 10;
+    pub const NO_ROOM: u8 = 11;
+    pub const SHAPE: u8 = 12;
+    pub const TOO_FEW: u8 = 13;
+}

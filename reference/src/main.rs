@@ -1,0 +1,45 @@
+//! `reference bench`: a capture on standard input, the bench text on standard
+//! output. `reference cases DIR`: writes NAME.p6k and NAME.txt for every case.
+//! `reference trace LINES`: random calls with their answers, for c/check.c.
+
+use reference::{bench_text, cases, trace};
+use std::io::{self, Read, Write};
+use std::path::Path;
+use std::process::ExitCode;
+
+fn main() -> ExitCode {
+    let arguments: Vec<String> = std::env::args().skip(1).collect();
+    let words: Vec<&str> = arguments.iter().map(String::as_str).collect();
+    let done = match words[..] {
+        ["bench"] => bench(),
+        ["cases", directory] => write_cases(Path::new(directory)),
+        ["trace", lines] => match lines.parse() {
+            Ok(lines) => io::stdout().write_all(trace::text(lines).as_bytes()),
+            Err(_) => Err(io::Error::other("LINES is not a number")),
+        },
+        _ => Err(io::Error::other("usage: reference bench | cases DIR | trace LINES")),
+    };
+    match done {
+        Ok(()) => ExitCode::SUCCESS,
+        Err(error) => {
+            eprintln!("{error}");
+            ExitCode::FAILURE
+        }
+    }
+}
+
+fn bench() -> io::Result<()> {
+    let mut capture = Vec::new();
+    io::stdin().read_to_end(&mut capture)?;
+    io::stdout().write_all(&bench_text(&capture))
+}
+
+fn write_cases(directory: &Path) -> io::Result<()> {
+    std::fs::create_dir_all(directory)?;
+    for case in cases::all() {
+        let path = directory.join(&case.name);
+        std::fs::write(path.with_extension("p6k"), &case.capture)?;
+        std::fs::write(path.with_extension("txt"), bench_text(&case.capture))?;
+    }
+    Ok(())
+}

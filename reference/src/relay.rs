@@ -1,0 +1,191 @@
+//! Settings, channels and the relay; making one, frames and resets.
+//!
+//! The structs hold any value, sound or not, because a relay handed in may be
+//! unsound and has to come back "as given".
+
+use crate::amplitude::{amplitude, sample, Window};
+use crate::refusal;
+
+pub const HIGHEST_LEVEL: u16 = 10_700;
+/// A frame that finds this age is counted.
+pub const FULL_AGE: u8 = 72;
+pub const FULL_LOSS_RUN: u8 = 16;
+pub const FULL_OVER_RUN: u8 = 4;
+/// Channels 0 to 2 are voltages, 3 to 5 currents.
+pub const FIRST_CURRENT: usize = 3;
+
+#[derive(Clone, Copy, Debug, Default, PartialEq, Eq)]
+pub struct Settings {
+    /// A drop level for each channel.
+    pub drop: [u16; 6],
+    /// A pickup level for each current: channels 3, 4, 5.
+    pub pickup: [u16; 3],
+}
+
+#[derive(Clone, Copy, Debug, Default, PartialEq, Eq)]
+pub struct Channel {
+    pub samples: Window,
+    pub loss_run: u8,
+    pub over_run: u8,
+    pub loss_latch: bool,
+    pub over_latch: bool,
+}
+
+#[derive(Clone, Copy, Debug, Default, PartialEq, Eq)]
+pub struct Relay {
+    pub settings: Settings,
+    pub channels: [Channel; 6],
+    pub age: u8,
+    pub slot: u8,
+}
+
+#[derive(Clone, Copy, Debug, PartialEq, Eq)]
+pub struct Fresh {
+    pub number: u8,
+    pub relay: Relay,
+}
+
+#[derive(Clone, Copy, Debug, PartialEq, Eq)]
+pub struct Framed {
+    pub number: u8,
+    pub relay: Relay,
+    pub amplitudes: [u16; 6],
+    pub output: u8,
+}
+
+#[derive(Clone, Copy, Debug, PartialEq, Eq)]
+pub struct Reset {
+    pub number: u8,
+    pub relay: Relay,
+}
+
+pub fn settings_in_range(settings: &Settings) -> bool {
+    let in_range = |level: &u16| (1..=HIGHEST_LEVEL).contains(level);
+    settings.drop.iter().all(in_range) && settings.pickup.iter().all(in_range)
+}
+
+/// "A relay handed in is sound if ...". A run at its end with its latch off is
+/// sound: the document lists nothing between runs and latches.
+pub fn is_sound(relay: &Relay) -> bool {
+    let channel_sound = |c: usize| {
+        let channel = &relay.channels[c];
+        let samples = channel.samples.iter().all(|s| (-512..=511).contains(s));
+        let over = if c < FIRST_CURRENT {
+            channel.over_run == 0 && !channel.over_latch
+        } else {
+            channel.over_run <= FULL_OVER_RUN
+        };
+        samples && channel.loss_run <= FULL_LOSS_RUN && over
+    };
+    settings_in_range(&relay.settings)
+        && relay.age <= FULL_AGE
+        && relay.slot <= 7
+        && (0..6).all(channel_sound)
+}
+
+/// "A channel is enabled in a frame if its bit and bit 6 are both 1."
+pub fn is_enabled(enable: u8, channel: usize) -> bool {
+    enable >> channel & 1 == 1 && enable >> 6 & 1 == 1
+}
+
+pub fn fresh(settings: Settings) -> Fresh {
+    if !settings_in_range(&settings) {
+        // "All-zero relay": the settings too.
+        return Fresh { number: refusal::SETTING, relay: Relay::default() };
+    }
+    Fresh { number: refusal::ACCEPTED, relay: Relay { settings, ..Relay::default() } }
+}
+
+/// The refusal number that codes and enable byte alone decide.
+pub fn frame_refusal(codes: &[u16; 6], enable: u8) -> u8 {
+    if codes.iter().any(|&code| code > 1023) {
+        refusal::CODE
+    } else if enable & 0x80 != 0 {
+        refusal::ENABLE
+    } else {
+        refusal::ACCEPTED
+    }
+}
+
+/// The refusal number that the mask alone decides.
+pub fn reset_refusal(mask: u8) -> u8 {
+    if mask & 0xC0 != 0 {
+        refusal::MASK
+    } else {
+        refusal::ACCEPTED
+    }
+}
+
+/// "A frame checks 2, 3, 4."
+pub fn frame(relay: Relay, codes: [u16; 6], enable: u8) -> Framed {
+    let number = if is_sound(&relay) { frame_refusal(&codes, enable) } else { refusal::NOT_SOUND };
+    if number != refusal::ACCEPTED {
+        return Framed { number, relay, amplitudes: [0; 6], output: 0 };
+    }
+    let mut next = relay;
+
+    // 1. Stores the samples and finds the six amplitudes.
+    let mut amplitudes = [0; 6];
+    for c in 0..6 {
+        let samples = &mut next.channels[c].samples;
+        samples[usize::from(relay.slot)] = sample(codes[c]);
+        amplitudes[c] = amplitude(samples) as u16;
+    }
+
+    if relay.age < FULL_AGE {
+        // 2. "Adds 1 to age and counts no run; all runs stay as they were."
+        next.age = relay.age + 1;
+    } else {
+        // 3. Counts the runs.
+        for c in 0..6 {
+            count_runs(&mut next.channels[c], &next.settings, c, amplitudes[c], is_enabled(enable, c));
+        }
+    }
+
+    // 4. Turns latches on. This stands outside 2 and 3, so it is done in
+    // every accepted frame, counted or not.
+    for channel in &mut next.channels {
+        channel.loss_latch |= channel.loss_run == FULL_LOSS_RUN;
+        channel.over_latch |= channel.over_run == FULL_OVER_RUN;
+    }
+
+    // 5. Advances the slot and answers.
+    next.slot = (relay.slot + 1) % 8;
+    let mut output = 0;
+    for c in 0..6 {
+        let latched = next.channels[c].loss_latch || next.channels[c].over_latch;
+        if latched && is_enabled(enable, c) {
+            output |= 1 << c;
+        }
+    }
+    Framed { number, relay: next, amplitudes, output }
+}
+
+fn count_runs(channel: &mut Channel, settings: &Settings, c: usize, m: u16, enabled: bool) {
+    if !enabled {
+        channel.loss_run = 0;
+        channel.over_run = 0;
+        return;
+    }
+    channel.loss_run = if m < settings.drop[c] { (channel.loss_run + 1).min(FULL_LOSS_RUN) } else { 0 };
+    if c >= FIRST_CURRENT {
+        let over = m >= settings.pickup[c - FIRST_CURRENT];
+        channel.over_run = if over { (channel.over_run + 1).min(FULL_OVER_RUN) } else { 0 };
+    }
+}
+
+/// "A reset [checks] 2, 5." It "clears runs and latches of the named channels
+/// and nothing else": neither age nor slot nor samples.
+pub fn reset(relay: Relay, mask: u8) -> Reset {
+    let number = if is_sound(&relay) { reset_refusal(mask) } else { refusal::NOT_SOUND };
+    if number != refusal::ACCEPTED {
+        return Reset { number, relay };
+    }
+    let mut next = relay;
+    for c in 0..6 {
+        if mask >> c & 1 == 1 {
+            next.channels[c] = Channel { samples: relay.channels[c].samples, ..Channel::default() };
+        }
+    }
+    Reset { number, relay: next }
+}

@@ -1,0 +1,234 @@
+//! Each refusal, 1 to 13, with its whole outcome.
+
+use reference::*;
+
+const GOOD: Settings = bench::SETTINGS;
+const MARK: [u8; 3] = capture::MARK;
+
+fn relay() -> Relay {
+    let mut relay = fresh(GOOD).relay;
+    relay.age = 72;
+    relay.channels[1].loss_latch = true;
+    relay.channels[5].over_run = 3;
+    relay
+}
+
+#[test]
+fn refusal_1_settings() {
+    for place in 0..9 {
+        for (level, number) in [(0, 1), (1, 0), (10_700, 0), (10_701, 1), (u16::MAX, 1)] {
+            let mut settings = GOOD;
+            match place {
+                0..=5 => settings.drop[place] = level,
+                _ => settings.pickup[place - 6] = level,
+            }
+            let expected = if number == 0 { Relay { settings, ..Relay::default() } } else { Relay::default() };
+            assert_eq!(fresh(settings), Fresh { number, relay: expected });
+        }
+    }
+}
+
+/// Every way of being unsound: the relay comes back as given, and 2 comes
+/// before 3, 4 and 5.
+#[test]
+fn refusal_2_soundness() {
+    let mut unsound: Vec<Relay> = Vec::new();
+    let mut spoil = |edit: &dyn Fn(&mut Relay)| {
+        let mut spoilt = relay();
+        edit(&mut spoilt);
+        unsound.push(spoilt);
+    };
+    spoil(&|r| r.age = 73);
+    spoil(&|r| r.age = 255);
+    spoil(&|r| r.slot = 8);
+    for c in 0..6 {
+        spoil(&|r| r.channels[c].loss_run = 17);
+        spoil(&|r| r.channels[c].over_run = 5);
+        spoil(&|r| r.settings.drop[c] = 0);
+        spoil(&|r| r.settings.drop[c] = 10_701);
+        for slot in 0..8 {
+            spoil(&|r| r.channels[c].samples[slot] = -513);
+            spoil(&|r| r.channels[c].samples[slot] = 512);
+        }
+    }
+    for c in 0..3 {
+        spoil(&|r| r.channels[c].over_run = 1);
+        spoil(&|r| r.channels[c].over_latch = true);
+        spoil(&|r| r.settings.pickup[c] = 0);
+        spoil(&|r| r.settings.pickup[c] = 10_701);
+    }
+    for relay in unsound {
+        for (codes, enable) in [([512; 6], 0x7F), ([1024; 6], 0xFF)] {
+            let refused = Framed { number: 2, relay, amplitudes: [0; 6], output: 0 };
+            assert_eq!(frame(relay, codes, enable), refused);
+        }
+        for mask in [0, 0x3F, 0xFF] {
+            assert_eq!(reset(relay, mask), Reset { number: 2, relay });
+        }
+    }
+}
+
+#[test]
+fn sound_at_the_ends() {
+    let mut relay = relay();
+    relay.slot = 7;
+    for c in 0..6 {
+        relay.channels[c].loss_run = 16;
+        relay.channels[c].samples = [-512, 511, -512, 511, 0, 0, 511, -512];
+        relay.settings.drop[c] = if c % 2 == 0 { 1 } else { 10_700 };
+    }
+    for c in 3..6 {
+        relay.channels[c].over_run = 4;
+        relay.channels[c].over_latch = true;
+    }
+    assert!(is_sound(&relay));
+    let answer = frame(relay, [0, 1023, 512, 0, 1023, 512], 0x7F);
+    assert_eq!((answer.number, answer.relay.slot), (0, 0));
+}
+
+#[test]
+fn refusals_3_and_4_frame() {
+    let relay = relay();
+    let refused = |number| Framed { number, relay, amplitudes: [0; 6], output: 0 };
+    for c in 0..6 {
+        for code in [1024, u16::MAX] {
+            let mut codes = [512; 6];
+            codes[c] = code;
+            assert_eq!(frame(relay, codes, 0x7F), refused(3));
+            assert_eq!(frame(relay, codes, 0x80), refused(3), "3 before 4");
+        }
+    }
+    for enable in 128..=255 {
+        assert_eq!(frame(relay, [512; 6], enable), refused(4));
+    }
+    for enable in 0..128 {
+        assert_eq!(frame(relay, [512; 6], enable).number, 0);
+    }
+}
+
+#[test]
+fn refusal_5_reset() {
+    let relay = relay();
+    for mask in 0..=255u8 {
+        let answer = reset(relay, mask);
+        if mask > 63 {
+            assert_eq!(answer, Reset { number: 5, relay });
+            continue;
+        }
+        let mut expected = relay;
+        for c in (0..6).filter(|c| mask >> c & 1 == 1) {
+            expected.channels[c].loss_run = 0;
+            expected.channels[c].over_run = 0;
+            expected.channels[c].loss_latch = false;
+            expected.channels[c].over_latch = false;
+        }
+        assert_eq!(answer, Reset { number: 0, relay: expected });
+    }
+}
+
+/// Reads with much room; a refusal has to leave the cells as they were.
+fn refused(bytes: &[u8]) -> u8 {
+    let mut cells = [0xBEEF; 70];
+    let outcome = read(bytes, &mut cells);
+    if outcome.number != 0 {
+        assert_eq!((outcome.count, cells), (0, [0xBEEF; 70]));
+    }
+    outcome.number
+}
+
+fn with_mark(rest: &[u8]) -> Vec<u8> {
+    [&MARK[..], rest].concat()
+}
+
+#[test]
+fn refusals_6_to_10_reading() {
+    assert_eq!(refused(&[0x50, 0x36, 0x4C, 0]), 6);
+    assert_eq!(refused(&[0x51]), 6);
+    assert_eq!(refused(&[]), 8);
+    assert_eq!(refused(&[0x50, 0x36]), 8);
+    assert_eq!(refused(&MARK), 8);
+    assert_eq!(refused(&with_mark(&[0x80])), 8);
+    assert_eq!(refused(&with_mark(&[0x81, 0x00])), 7);
+    assert_eq!(refused(&with_mark(&[0xFF, 0xFF])), 7);
+    assert_eq!(refused(&with_mark(&[0x81, 0x20])), 9);
+    assert_eq!(refused(&with_mark(&[0x80, 0x20])), 8, "4,096 frames are in range");
+    assert_eq!(refused(&with_mark(&[1, 0x80])), 9);
+    assert_eq!(refused(&with_mark(&[1, 0x7F])), 8);
+    assert_eq!(refused(&with_mark(&[1, 0x7F, 0xFE, 0x07, 0, 0, 0, 0, 0])), 0, "512 + 511");
+    assert_eq!(refused(&with_mark(&[1, 0x7F, 0x80, 0x08])), 9, "512 + 512");
+    assert_eq!(refused(&with_mark(&[1, 0x7F, 0xFF, 0x07, 0, 0, 0, 0, 0])), 0, "512 − 512");
+    assert_eq!(refused(&with_mark(&[1, 0x7F, 0x81, 0x08])), 9, "512 − 513");
+    assert_eq!(refused(&with_mark(&[1, 0x7F, 0, 0, 0, 0, 0, 0])), 0);
+    assert_eq!(refused(&with_mark(&[1, 0x7F, 0, 0, 0, 0, 0, 0, 0])), 10);
+    assert_eq!(refused(&with_mark(&[0, 0])), 10);
+}
+
+#[test]
+fn refusal_11_no_room() {
+    // Reading: the fault before the space, then the space.
+    let capture = with_mark(&[1, 0x7F, 0, 0, 0, 0, 0, 0]);
+    let mut cells = [7; 6];
+    assert_eq!(read(&capture, &mut cells), Outcome { number: 11, count: 0 });
+    assert_eq!(cells, [7; 6]);
+    let tailed = [&capture[..], &[0]].concat();
+    assert_eq!(read(&tailed, &mut cells), Outcome { number: 10, count: 0 });
+    let mut cells = [7; 9];
+    assert_eq!(read(&capture, &mut cells), Outcome { number: 0, count: 1 });
+    assert_eq!(cells, [512, 512, 512, 512, 512, 512, 0x7F, 7, 7]);
+    // Writing.
+    let cells = [512, 512, 512, 512, 512, 512, 0x7F];
+    let mut buffer = [0xAA; 10];
+    assert_eq!(write(&cells, &mut buffer), Outcome { number: 11, count: 0 });
+    assert_eq!(buffer, [0xAA; 10]);
+    let mut buffer = [0xAA; 13];
+    assert_eq!(write(&cells, &mut buffer), Outcome { number: 0, count: 11 });
+    assert_eq!(buffer[..11], capture);
+    assert_eq!(buffer[11..], [0xAA; 2]);
+}
+
+#[test]
+fn refusals_12_and_9_writing() {
+    let outcome = |cells: &[u16], room: usize| {
+        let mut buffer = vec![0xAA; room];
+        let outcome = write(cells, &mut buffer);
+        assert_eq!(buffer, vec![0xAA; room]);
+        assert_eq!(outcome.count, 0);
+        outcome.number
+    };
+    assert_eq!(outcome(&[2000; 6], 0), 12);
+    assert_eq!(outcome(&[2000; 8], 100), 12);
+    for at in 0..7 {
+        let mut cells = [512, 512, 512, 512, 512, 512, 0x7F];
+        cells[at] = if at == 6 { 128 } else { 1024 };
+        assert_eq!(outcome(&cells, 0), 9, "9 before 11");
+        cells[at] = u16::MAX;
+        assert_eq!(outcome(&cells, 100), 9);
+    }
+    let mut cells = [512, 512, 512, 512, 512, 512, 0x100];
+    assert_eq!(outcome(&cells, 100), 9, "an enable cell is no byte");
+    cells[6] = 0;
+    assert_eq!(outcome(&cells.repeat(4097), 60_000), 9);
+    let mut buffer = vec![0; 60_000];
+    assert_eq!(write(&cells.repeat(4096), &mut buffer).number, 0);
+    assert_eq!(outcome(&[], 3), 11);
+    assert_eq!(write(&[], &mut buffer), Outcome { number: 0, count: 4 });
+}
+
+#[test]
+fn refusals_12_9_13_strongest() {
+    let refused = |number| Strongest { number, sum: 0, frame: 0 };
+    let quiet = [512u16, 512, 512, 512, 512, 512, 0];
+    assert_eq!(strongest(&[9999; 8], 0), refused(12));
+    assert_eq!(strongest(&[9999; 7], 6), refused(12), "12 before 9");
+    assert_eq!(strongest(&[1024; 7], 0), refused(9), "9 before 13");
+    assert_eq!(strongest(&quiet.repeat(4097), 0), refused(9));
+    assert_eq!(strongest(&[], 0), refused(13));
+    assert_eq!(strongest(&quiet.repeat(7), 0), refused(13));
+    assert_eq!(strongest(&quiet.repeat(8), 5), refused(0));
+    // A fault outside the channel is a fault too.
+    for at in 0..7 {
+        let mut cells = quiet.repeat(8);
+        cells[7 * 5 + at] = if at == 6 { 128 } else { 1024 };
+        assert_eq!(strongest(&cells, 2), refused(9));
+    }
+}
