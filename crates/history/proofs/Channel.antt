@@ -5,18 +5,19 @@ use native.Mathlib.Decide.{decLe}
 use native.Mathlib.Omega.{arith}
 use mathlib.Core.Path.{_≡_, refl, sym, ap₂, _∙_, subst}
 use mathlib.Core.Logic.{_↔_}
-use mathlib.Core.Bool.{Bool, true, false, _&&_, cond}
+use mathlib.Core.Bool.{Bool, true, false, _&&_}
 use mathlib.Core.List.{List, [], _∷_}
 use lib.IntN.{ℤ}
 use lib.Dec.{T, leb}
 use lib.ListN.{set}
 use borrow.Author.Tests.{leb-true, leb-false}
+use mir.Facts.{and-yes, yes-and}
 use Rattle.phasor.specs.Each.{table}
 use Rattle.phasor.specs.Window.{sampleOf}
 use Rattle.relay.specs.declared.Channel.{Channel}
 use Rattle.relay.specs.declared.Levels.{Levels}
-use Rattle.relay.specs.Settings.{Kind, loss, over}
-use Rattle.relay.specs.Channel.{freshChannel, clearedOf, nextRun, nextLatch, channelAfter}
+use Rattle.relay.specs.Settings.{Kind, settled, loss, over}
+use Rattle.relay.specs.Channel.{freshChannel, clearedOf, runAfter, nextRun, nextLatch, channelAfter}
 use Rattle.history.specs.History.{Input, Event, sampled, cleared, frames, resets, resetsBefore, windowOf}
 use Rattle.history.specs.History.{windowAt, Counted, Enabled, InRun, FullRun, FullRunMeeting, LatchOn}
 use Rattle.history.proofs.Runs.{Streak, FullAt, Full, no-streak, no-full, hit-streak, full-back, latch-frame}
@@ -25,18 +26,6 @@ use Rattle.history.proofs.History.{before-append, before-last, before-l
 
 T-true : {b : Bool} → b ≡ true → T b
 T-true e = subst T (sym e) tt
-
-pub and-both : (a b : Bool) → T a → T b → T (a && b)
-and-both true b s t = t
-and-both false b s t = absurd s
-
-pub and-left : (a b : Bool) → T (a && b) → T a
-and-left true b t = tt
-and-left false b t = t
-
-pub and-right : (a b : Bool) → T (a && b) → T b
-and-right true b t = t
-and-right false b t = absurd t
 
 module _ (kind : Kind) where
   -- frame n can stand in a full run that meets its level and lies after the last reset
@@ -131,26 +120,26 @@ module _ (kind : Kind) where
         (λ n e b. un (subst (Live (es ▷ sampled i)) (let q : n ≡ frames es = omega arith in q) b))
 
     -- the run after it, by the two tests that settle it: the frame is counted, and it is enabled with a window that meets the level
-    run-after : (age run : ℕ) (counted feeds : Bool) → age ≡ min 72 (frames es) → leb 72 age ≡ counted
+    run-after : (age run : ℕ) (counted feeds : Bool) → age ≡ min settled (frames es) → leb settled age ≡ counted
         → (i .channelBit && i .bit6 && kind .meets (windowAt (es ▷ sampled i) (frames es))) ≡ feeds
         → Streak (kind .len) (frames es) run (Live es)
-        → Streak (kind .len) (suc (frames es)) (cond counted (cond feeds (min (kind .len) (suc run)) 0) run) (Live (es ▷ sampled i))
+        → Streak (kind .len) (suc (frames es)) (runAfter counted feeds (kind .len) run) (Live (es ▷ sampled i))
     run-after age run true true e q r s =
         hit-streak (kind .len) (frames es) (Live es) (Live (es ▷ sampled i)) live-same run s
         (record {
-          counted = omega (arith, leb-true 72 age q);
-          enabled = rw input-last (and-left (i .channelBit && i .bit6) _ (T-true r));
-          meets = and-right (i .channelBit && i .bit6) _ (T-true r);
+          counted = omega (arith, leb-true settled age q);
+          enabled = rw input-last (and-yes (i .channelBit && i .bit6) _ (T-true r) .0);
+          meets = and-yes (i .channelBit && i .bit6) _ (T-true r) .1;
           afterLastReset = before-last es i ∙ sym (resets-sampled es i);
         })
     run-after age run true false e q r s = miss (λ b. rw r at (both (rw input-last at (b .enabled)) (b .meets)))
       where
         both : T (i .channelBit && i .bit6) → T (kind .meets (windowAt (es ▷ sampled i) (frames es))) → T (i .channelBit && i .bit6 && kind .meets (windowAt (es ▷ sampled i) (frames es)))
-        both = and-both (i .channelBit && i .bit6) (kind .meets (windowAt (es ▷ sampled i) (frames es)))
+        both = yes-and (i .channelBit && i .bit6) (kind .meets (windowAt (es ▷ sampled i) (frames es)))
     run-after age run false feeds e q r s = rw (idle run s) (miss (λ b. early (b .counted)))
       where
         early : ¬ Counted (es ▷ sampled i) (frames es)
-        early h = omega (arith, leb-false 72 age q)
+        early h = omega (arith, leb-false settled age q)
 
         idle : (run : ℕ) → Streak (kind .len) (frames es) run (Live es) → run ≡ 0
         idle zero s = refl
@@ -158,10 +147,10 @@ module _ (kind : Kind) where
             let h : suc run ≤ frames es = s .room in
             absurd (early (omega (arith, s .hits (frames es - 1) (omega arith) (omega arith) .counted)))
 
-    pub run-sampled : 0 < kind .len → (age run : ℕ) (latch : Bool) (window : List ℤ) → age ≡ min 72 (frames es)
+    pub run-sampled : 0 < kind .len → (age run : ℕ) (latch : Bool) (window : List ℤ) → age ≡ min settled (frames es)
         → window ≡ windowAt (es ▷ sampled i) (frames es) → RunIs es run latch
-        → RunIs (es ▷ sampled i) (nextRun kind (leb 72 age) (i .channelBit && i .bit6) window run)
-        (nextLatch kind (nextRun kind (leb 72 age) (i .channelBit && i .bit6) window run) latch)
+        → RunIs (es ▷ sampled i) (nextRun kind (leb settled age) (i .channelBit && i .bit6) window run)
+        (nextLatch kind (nextRun kind (leb settled age) (i .channelBit && i .bit6) window run) latch)
     unfolding nextRun
     run-sampled some age run latch window e w r =
         record {
@@ -169,7 +158,7 @@ module _ (kind : Kind) where
           on = rw frames-sampled (latch-frame (kind .len) (frames es) (Live es) (Live (es ▷ sampled i)) live-same _ latch some streak (r .on));
         }
       where
-        streak : Streak (kind .len) (suc (frames es)) (nextRun kind (leb 72 age) (i .channelBit && i .bit6) window run) (Live (es ▷ sampled i))
+        streak : Streak (kind .len) (suc (frames es)) (nextRun kind (leb settled age) (i .channelBit && i .bit6) window run) (Live (es ▷ sampled i))
         streak = rw w (run-after age run _ _ e refl refl (r .streak))
 
     -- where the latch went on in the frame, a full run that meets its level ends there
@@ -221,9 +210,9 @@ channel-cleared levels es ch v =
     }
 
 pub channel-sampled : (levels : Levels) (es : List Event) (ch : Channel) (age slot code : ℕ) (channelBit bit6 : Bool)
-    → age ≡ min 72 (frames es) → slot ≡ frames es % 8 → ChannelIs levels es ch
+    → age ≡ min settled (frames es) → slot ≡ frames es % 8 → ChannelIs levels es ch
     → ChannelIs levels (es ▷ sampled (record { sample = sampleOf code; channelBit = channelBit; bit6 = bit6 }))
-    (channelAfter levels slot (leb 72 age) (channelBit && bit6) code ch)
+    (channelAfter levels slot (leb settled age) (channelBit && bit6) code ch)
 unfolding channelAfter
 channel-sampled levels es ch age slot code channelBit bit6 a s v =
     record {

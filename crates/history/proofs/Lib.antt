@@ -1,5 +1,4 @@
 pub mod Channel
-pub mod Figures
 pub mod Refutations
 pub mod Relay
 pub mod Runs

@@ -22,17 +22,48 @@ use Rattle.relay.specs.declared.Channel.{Channel}
 use Rattle.relay.specs.declared.Relay.{Relay}
 use Rattle.relay.specs.declared.FrameAnswer.{FrameAnswer}
 use Rattle.relay.specs.declared.ResetAnswer.{ResetAnswer}
-use Rattle.relay.specs.Bits.{bitOf}
-use Rattle.relay.specs.Settings.{dropsSound, pickupsSound}
-use Rattle.relay.specs.Channel.{noChannel}
-use Rattle.relay.specs.Relay.{channelAt, zeroRelay, freshOf, amplitudeIn, codesSound, inputRefusal, frameOf, maskRefusal, resetOf}
+use Rattle.relay.specs.Bits.{bitOf, bitsBelow}
+use Rattle.relay.specs.Settings.{levelsOf, dropsSound, pickupsSound}
+use Rattle.relay.specs.Channel.{noChannel, freshChannel, nextRun, channelAfter}
+use Rattle.relay.specs.Sound.{channelSound, channelsSound, soundOf}
+use Rattle.relay.specs.Relay.{channelAt, freshRelay, zeroRelay, freshRefusal, freshOf, nextChannel, amplitudeIn, outputIn, acceptedFrame}
+use Rattle.relay.specs.Relay.{codesSound, inputRefusal, frameRefusal, frameOf, maskRefusal, resetOf}
 use Rattle.history.specs.Calls.{Codes, Call, frame, reset, framesIn, Implementation, theRelay}
 use Rattle.history.specs.History.{channelHistory, windowOf, windowAt, LatchOn}
 use Rattle.history.specs.Demand.{lossOf, relayAfter, RelayIs, FrameAnswered, AcceptedSettings, Demanded}
 use Rattle.history.specs.WrongRelays.{EachFrame, EachReset, FixedLatches, Wrong, neverTrips, unaltered, fixedAmplitude, fixedLatches, restartsAge, ignoresEnable, oneTooMany, refusesAll}
-use Rattle.history.proofs.Figures.{ones, still, frames512, quiet, latchAfter, figures, limits}
 use Rattle.history.proofs.Relay.{frames-frame, after-end}
 use Rattle.history.proofs.Theorem.{demand3}
+
+-- ---- frames of code 512 under levels that are all 1
+
+abbrev ones : ℕ → List ℕ
+ones n = replicate n 1
+
+abbrev still : ℕ → Codes
+still code = record { list = replicate 6 code; six = refl }
+
+abbrev frames512 : ℕ → ℕ → List Call
+frames512 enable zero = []
+frames512 enable (suc n) = frames512 enable n ++ (frame (still 512) enable ∷ [])
+
+-- "Enable bits 0 to 6 are on throughout"
+abbrev quiet : ℕ → List Call
+quiet n = frames512 127 n
+
+-- channel 0's loss latch
+abbrev latchAfter : Implementation → List Call → Bool
+latchAfter d calls = channelAt (relayAfter d (ones 6) (ones 3) calls) 0 .«loss_latch»
+
+-- it is on after frame 87 and off after frame 72, the first that is counted; and it stays off if no channel is enabled
+record Figures : Type 0 where
+  at87 : latchAfter theRelay (quiet 88) ≡ true
+  at72 : latchAfter theRelay (quiet 73) ≡ false
+  disabled : latchAfter theRelay (frames512 0 88) ≡ false
+
+figures : Figures
+unfolding every table windowSound re im sumOver cosines sines amplitudeOf scaledOf lastX startOf steps stepAt bitsBelow levelsOf dropsSound pickupsSound freshChannel nextRun channelAfter channelSound channelsSound soundOf freshRelay freshRefusal freshOf nextChannel amplitudeIn outputIn acceptedFrame codesSound inputRefusal frameRefusal frameOf
+figures = record { at87 = refl; at72 = refl; disabled = refl }
 
 -- ---- what demand 3 says of any implementation that meets it, under levels that are all 1
 
@@ -43,6 +74,10 @@ in-range = refl
 taken : inputRefusal (replicate 6 512) 127 ≡ 0
 unfolding inputRefusal codesSound every
 taken = refl
+
+highest : inputRefusal (replicate 6 1023) 127 ≡ 0
+unfolding inputRefusal codesSound every
+highest = refl
 
 module _ (d : Implementation) (meets : Demanded d) where
   relay-is : (calls : List Call) → RelayIs d (ones 6) (ones 3) calls
@@ -96,7 +131,7 @@ no-number m low high =
 
 fixed-amplitude : (d : Implementation) (m : ℕ)
     → EachFrame d (λ r codes enable. d .frame r codes enable .amplitudes ≡ replicate 6 m) → ¬ Demanded d
-fixed-amplitude d m wrong meets = no-number m (within 512 taken) (within 1023 (limits .0))
+fixed-amplitude d m wrong meets = no-number m (within 512 taken) (within 1023 highest)
   where
     within : (code : ℕ) → inputRefusal (replicate 6 code) 127 ≡ 0 → Within (first code) m
     within code e = subst (λ (l : List ℕ). Within (first code) (getD l 0 0)) (wrong (ones 6) (ones 3) in-range [] (still code) 127 e) (frame-is d meets [] (still code) 127 e .within 0 (omega arith))
@@ -137,12 +172,12 @@ ignores-enable d wrong meets =
         ∙ ap (λ (r : Relay). d .frame r (replicate 6 512) 127 .relay) (same n) ∙ sym (after-end d (d .fresh (ones 6) (ones 3) .relay) (quiet n) (frame (still 512) 127))
 
 one-too-many : (d : Implementation)
-    → EachFrame d (λ r codes enable. (c : ℕ) → c < 6 → getD (d .frame r codes enable .amplitudes) c 0 ≡ suc (amplitudeIn r codes c))
+    → EachFrame d (λ r codes enable. (c : ℕ) → c < 6 → getD (d .frame r codes enable .amplitudes) c 0 ≡ suc (amplitudeIn (r .slot) codes (r .channels) c))
     → ¬ Demanded d
 unfolding amplitudeIn windowOf table inputRefusal codesSound every
 one-too-many d wrong meets =
     let fresh : RelayIs d (ones 6) (ones 3) [] = relay-is d meets [] in
-    let same : amplitudeIn (relayAfter d (ones 6) (ones 3) []) (replicate 6 512) 0 ≡ amplitudeOf (first 512) =
+    let same : amplitudeIn (relayAfter d (ones 6) (ones 3) [] .slot) (replicate 6 512) (relayAfter d (ones 6) (ones 3) [] .channels) 0 ≡ amplitudeOf (first 512) =
     ap₂ (λ (w : List ℤ) (k : ℕ). amplitudeOf (set w k (pos 0))) (fresh .samples 0 (omega arith)) (fresh .slot) in
     omega (arith, same, wrong (ones 6) (ones 3) in-range [] (still 512) 127 taken 0 (omega arith), frame-is d meets [] (still 512) 127 taken .amplitude 0 (omega arith))
 
@@ -216,7 +251,7 @@ abbrev enabling : Implementation
 enabling = changed (λ r codes enable a. frameOf r codes 127)
 
 abbrev oneMore : Relay → List ℕ → ℕ → ℕ
-oneMore r codes c = suc (amplitudeIn r codes c)
+oneMore r codes c = suc (amplitudeIn (r .slot) codes (r .channels) c)
 
 abbrev increased : Implementation
 increased = changed (λ r codes enable a. record { relay = a .relay; number = a .number; amplitudes = table 6 (oneMore r codes); output = a .output })
@@ -262,7 +297,7 @@ wrong-ones =
         let r : Relay = relayAfter enabling drop pickup past in
         rw e (sym (ap (λ (a : FrameAnswer). a .relay) (either (eqb (inputRefusal (codes .list) 127) 0) (frameOf r (codes .list) 127))))
 
-    more-so : EachFrame increased (λ r codes enable. (c : ℕ) → c < 6 → getD (increased .frame r codes enable .amplitudes) c 0 ≡ suc (amplitudeIn r codes c))
+    more-so : EachFrame increased (λ r codes enable. (c : ℕ) → c < 6 → getD (increased .frame r codes enable .amplitudes) c 0 ≡ suc (amplitudeIn (r .slot) codes (r .channels) c))
     more-so drop pickup ok past codes enable e c l =
         let r : Relay = relayAfter increased drop pickup past in
         rw e (getD-table 6 (oneMore r (codes .list)) 0 c l)

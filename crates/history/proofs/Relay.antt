@@ -11,7 +11,7 @@ use lib.ListN.{getD}
 use borrow.Author.Tests.{ltb-true, ltb-false, ne-eqb}
 use Rattle.relay.specs.declared.Relay.{Relay}
 use Rattle.relay.specs.Bits.{bitOf}
-use Rattle.relay.specs.Settings.{settingsOf, levelsOf}
+use Rattle.relay.specs.Settings.{settingsOf, levelsOf, settled}
 use Rattle.relay.specs.Channel.{clearedOf}
 use Rattle.relay.specs.Sound.{soundOf}
 use Rattle.relay.specs.Relay.{channelAt, freshRelay, ageAfter, slotAfter, nextChannel, acceptedFrame, refusedFrame}
@@ -77,12 +77,12 @@ frames-refused calls call e = sym (frames-same 0 (calls ++ (call ∷ []))) ∙ a
 
 -- ---- the relay
 
-age-step : (age n : ℕ) → age ≡ min 72 n → ageAfter age ≡ min 72 (suc n)
-age-step age n e = by (ltb age 72) refl
+age-step : (age n : ℕ) → age ≡ min settled n → ageAfter age ≡ min settled (suc n)
+age-step age n e = by (ltb age settled) refl
   where
-    by : (b : Bool) → ltb age 72 ≡ b → cond b (age + 1) age ≡ min 72 (suc n)
-    by true q = omega (arith, ltb-true age 72 q)
-    by false q = omega (arith, ltb-false age 72 q)
+    by : (b : Bool) → ltb age settled ≡ b → cond b (age + 1) age ≡ min settled (suc n)
+    by true q = omega (arith, ltb-true age settled q)
+    by false q = omega (arith, ltb-false age settled q)
 
 slot-step : (slot n : ℕ) → slot ≡ n % 8 → slotAfter slot ≡ suc n % 8
 slot-step slot n e = by (ltb slot 7) refl
@@ -95,7 +95,7 @@ module _ (drop pickup : List ℕ) where
   pub record Is (calls : List Call) (r : Relay) : Type 0 where
     pub sound : soundOf r ≡ true
     pub settings : r .settings ≡ settingsOf drop pickup
-    pub age : r .age ≡ min 72 (framesIn calls)
+    pub age : r .age ≡ min settled (framesIn calls)
     pub slot : r .slot ≡ framesIn calls % 8
     pub channel : (c : ℕ) → c < 6 → ChannelIs (levels drop pickup c) (channelHistory c calls) (channelAt r c)
 

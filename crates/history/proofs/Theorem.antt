@@ -9,6 +9,7 @@ use mathlib.Core.List.{List, [], _∷_, _++_}
 use lib.IntN.{ℤ}
 use lib.Dec.{T, leb, le→leb, leb→le, lt→ltb, ltb→lt}
 use lib.ListN.{getD}
+use mir.Facts.{and-yes, yes-and}
 use Rattle.phasor.specs.Cordic.{amplitudeOf}
 use Rattle.phasor.specs.Window.{windowSound}
 use Rattle.phasor.proofs.Theorems.{accurate, over-clear, over-near, loss-clear, loss-near}
@@ -20,14 +21,14 @@ use Rattle.relay.specs.declared.ResetAnswer.{ResetAnswer}
 use Rattle.relay.specs.Bits.{bitOf, enabledIn}
 use Rattle.relay.specs.Settings.{Kind}
 use Rattle.relay.specs.Channel.{windowAfter, channelAfter}
-use Rattle.relay.specs.Relay.{channelAt, freshOf, nextChannel, amplitudeIn, outputIn, acceptedFrame, inputRefusal, frameOf, acceptedReset}
+use Rattle.relay.specs.Relay.{channelAt, freshOf, counted, nextChannel, amplitudeIn, outputIn, acceptedFrame, inputRefusal, frameOf, acceptedReset}
 use Rattle.relay.proofs.Output.{bits-lt, bit-bits}
-use Rattle.relay.proofs.Laws.{fresh-accepted, fresh-is, frame-accepted, frame-refused, frame-channel, reset-accepted, reset-refused}
+use Rattle.relay.proofs.Laws.{nextOf, fresh-accepted, fresh-is, frame-accepted, frame-refused, frame-channel, reset-accepted, reset-refused}
 use Rattle.history.specs.Calls.{Codes, Call, frame, reset, framesIn, theRelay}
 use Rattle.history.specs.History.{inputOf, channelHistory, frames, windowOf, windowAt, resets, resetsBefore, FullRun, FullRunMeeting, LatchOn}
 use Rattle.history.specs.Demand.{SurelyBelowDrop, PossiblyBelowDrop, SurelyOverPickup, PossiblyOverPickup, Margins, levels}
 use Rattle.history.specs.Demand.{lossOf, overOf, relayAfter, RelayIs, FrameAnswered, Answered, Demand3, AcceptedSettings, Demanded}
-use Rattle.history.proofs.Channel.{and-both, and-right, RunIs, ChannelIs, loss-rule, over-rule, went-on, ends-here}
+use Rattle.history.proofs.Channel.{RunIs, ChannelIs, loss-rule, over-rule, went-on, ends-here}
 use Rattle.history.proofs.Relay.{Is, relay-is, frame-is, history-frame, frames-same, frames-frame}
 use Rattle.history.proofs.Windows.{window-sound}
 
@@ -63,7 +64,7 @@ module _ (drop pickup : List ℕ) (settings : AcceptedSettings drop pickup) wher
     calls = past ++ (frame codes enable ∷ [])
 
     -- channel c after the frame, as the answer's definition has it
-    next-is : (c : ℕ) → c < 6 → ChannelIs (levels drop pickup c) (channelHistory c calls) (nextChannel (relay past) (codes .list) enable c)
+    next-is : (c : ℕ) → c < 6 → ChannelIs (levels drop pickup c) (channelHistory c calls) (nextOf (relay past) (codes .list) enable c)
     next-is c h =
         rw (frame-channel (relay past) (codes .list) enable c h) at (frame-is drop pickup past (relay past) codes enable taken (is past) .channel c h)
 
@@ -73,14 +74,14 @@ module _ (drop pickup : List ℕ) (settings : AcceptedSettings drop pickup) wher
 
     amplitude-is : (c : ℕ) → c < 6 → getD (acceptedFrame (relay past) (codes .list) enable .amplitudes) c 0 ≡ amplitudeOf (windowAt (channelHistory c calls) (framesIn past))
     unfolding acceptedFrame amplitudeIn
-    amplitude-is c h = getD-table 6 (amplitudeIn (relay past) (codes .list)) 0 c h ∙ ap amplitudeOf (window-is c h)
+    amplitude-is c h = getD-table 6 (amplitudeIn (relay past .slot) (codes .list) (relay past .channels)) 0 c h ∙ ap amplitudeOf (window-is c h)
 
     output-is : (c : ℕ) → c < 6 → T (bitOf (acceptedFrame (relay past) (codes .list) enable .output) c)
         ↔ ((LatchOn (lossOf drop pickup c) (channelHistory c calls) ⊎ LatchOn (overOf drop pickup c) (channelHistory c calls)) × T (enabledIn enable c))
     unfolding acceptedFrame outputIn
     output-is c h =
-        let ch : Channel = nextChannel (relay past) (codes .list) enable c in
-        rw (bit-bits 6 (outputIn (relay past) (codes .list) enable) c h)
+        let ch : Channel = nextOf (relay past) (codes .list) enable c in
+        rw (bit-bits 6 (outputIn (relay past .settings) (relay past .slot) (counted (relay past)) (codes .list) enable (relay past .channels)) c h)
         (output-rule (ch .«loss_latch») (ch .«over_latch») (enabledIn enable c) (loss-rule (levels drop pickup c) (channelHistory c calls) ch (next-is c h))
         (over-rule (levels drop pickup c) (channelHistory c calls) ch (next-is c h)))
 
@@ -119,8 +120,8 @@ module _ (drop pickup : List ℕ) (settings : AcceptedSettings drop pickup) wher
         (channelHistory c calls) (channelAt (relay past) c .«over_latch») (channelAt (relay calls) c .«over_latch»)
     over-margins c current h =
         margins c h (overOf drop pickup c) (omega arith) (SurelyOverPickup (levels drop pickup c .pickup)) (PossiblyOverPickup (levels drop pickup c .pickup))
-        (λ w s z. and-both (leb 3 c) _ (le→leb 3 c current) (le→leb (levels drop pickup c .pickup) (amplitudeOf w) (over-clear w s (levels drop pickup c .pickup) z)))
-        (λ w s t. over-near w s (levels drop pickup c .pickup) (leb→le (levels drop pickup c .pickup) (amplitudeOf w) (and-right (leb 3 c) _ t)))
+        (λ w s z. yes-and (leb 3 c) _ (le→leb 3 c current) (le→leb (levels drop pickup c .pickup) (amplitudeOf w) (over-clear w s (levels drop pickup c .pickup) z)))
+        (λ w s t. over-near w s (levels drop pickup c .pickup) (leb→le (levels drop pickup c .pickup) (amplitudeOf w) (and-yes (leb 3 c) _ t .1)))
         _ _ _ (is past .channel c h .overRun) (over-rule (levels drop pickup c) (channelHistory c calls) (channelAt (relay calls) c) (is calls .channel c h))
 
     frame-answered : FrameAnswered theRelay drop pickup past calls enable (frameOf (relay past) (codes .list) enable)
@@ -129,12 +130,12 @@ module _ (drop pickup : List ℕ) (settings : AcceptedSettings drop pickup) wher
         rw (frame-accepted (relay past) (codes .list) enable (is past .sound) taken)
         (record {
           number = refl;
-          six = length-table 6 (amplitudeIn (relay past) (codes .list));
+          six = length-table 6 (amplitudeIn (relay past .slot) (codes .list) (relay past .channels));
           amplitude = amplitude-is;
           within = λ c h. rw (amplitude-is c h) (accurate _ (window-sound c h calls (suc (framesIn past))) .1);
           bounded = λ c h. rw (amplitude-is c h) (accurate _ (window-sound c h calls (suc (framesIn past))) .0);
           output = output-is;
-          sixBits = bits-lt 6 (outputIn (relay past) (codes .list) enable);
+          sixBits = bits-lt 6 (outputIn (relay past .settings) (relay past .slot) (counted (relay past)) (codes .list) enable (relay past .channels));
           lossMargins = loss-margins;
           overMargins = over-margins;
         })

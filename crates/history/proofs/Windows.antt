@@ -7,41 +7,39 @@ use mathlib.Core.List.{List, [], _∷_, _++_}
 use lib.IntN.{pos}
 use lib.Dec.{eqb}
 use lib.ListN.{getD}
-use borrow.Author.Tests.{leb-true, eqb-true}
+use borrow.Author.Tests.{eqb-true}
 use Rattle.phasor.specs.Window.{sampleOf, sampleSound, windowSound}
-use Rattle.phasor.proofs.Each.{every-at, every-true, getD-table}
+use Rattle.phasor.proofs.Each.{every-true, getD-table}
 use Rattle.relay.specs.Bits.{bitOf}
-use Rattle.relay.specs.Relay.{codesSound, inputRefusal}
-use Rattle.relay.proofs.Sound.{input-codes}
+use Rattle.relay.specs.Relay.{inputRefusal}
+use Rattle.relay.proofs.Sound.{input-codes, code-le}
 use Rattle.phasor.proofs.Samples.{sample-is-sound}
 use Rattle.history.specs.Calls.{Codes, Call, frame, reset, accepted}
 use Rattle.history.specs.History.{Event, sampled, cleared, inputOf, channelHistory, inputAt, latestInSlot, windowOf}
 
-abbrev Sound : List Event → Type 0
-Sound es = (n : ℕ) → sampleSound (inputAt es n .sample) ≡ true
+abbrev SamplesSound : List Event → Type 0
+SamplesSound es = (n : ℕ) → sampleSound (inputAt es n .sample) ≡ true
 
 code-sound : (codes : Codes) (enable c : ℕ) → c < 6 → accepted (frame codes enable) ≡ true → sampleSound (sampleOf (getD (codes .list) c 0)) ≡ true
-unfolding codesSound
 code-sound codes enable c h e =
-    sample-is-sound (getD (codes .list) c 0)
-    (leb-true _ 1023 (every-at 6 _ (input-codes (codes .list) enable (eqb-true (inputRefusal (codes .list) enable) 0 e)) c h))
+    sample-is-sound (getD (codes .list) c 0) (code-le (codes .list) (input-codes (codes .list) enable (eqb-true (inputRefusal (codes .list) enable) 0 e)) c h)
 
-history-sound : (c : ℕ) → c < 6 → (calls : List Call) → Sound (channelHistory c calls)
+history-sound : (c : ℕ) → c < 6 → (calls : List Call) → SamplesSound (channelHistory c calls)
 history-sound c h [] = λ n. refl
 history-sound c h (frame codes enable ∷ calls) = by (accepted (frame codes enable)) (code-sound codes enable c h) (history-sound c h calls)
   where
-    by : (b : Bool) → (b ≡ true → sampleSound (sampleOf (getD (codes .list) c 0)) ≡ true) → Sound (channelHistory c calls)
-        → Sound (cond b (sampled (inputOf c (codes .list) enable) ∷ []) [] ++ channelHistory c calls)
+    by : (b : Bool) → (b ≡ true → sampleSound (sampleOf (getD (codes .list) c 0)) ≡ true) → SamplesSound (channelHistory c calls)
+        → SamplesSound (cond b (sampled (inputOf c (codes .list) enable) ∷ []) [] ++ channelHistory c calls)
     by true s rest zero = s refl
     by true s rest (suc n) = rest n
     by false s rest n = rest n
 history-sound c h (reset mask ∷ calls) = by (accepted (reset mask) && bitOf mask c) (history-sound c h calls)
   where
-    by : (b : Bool) → Sound (channelHistory c calls) → Sound (cond b (cleared ∷ []) [] ++ channelHistory c calls)
+    by : (b : Bool) → SamplesSound (channelHistory c calls) → SamplesSound (cond b (cleared ∷ []) [] ++ channelHistory c calls)
     by true rest n = rest n
     by false rest n = rest n
 
-latest-sound : (es : List Event) → Sound es → (n k : ℕ) → sampleSound (latestInSlot es n k) ≡ true
+latest-sound : (es : List Event) → SamplesSound es → (n k : ℕ) → sampleSound (latestInSlot es n k) ≡ true
 latest-sound es s zero k = refl
 latest-sound es s (suc n) k = by (eqb (n % 8) k) (latest-sound es s n k)
   where

@@ -15,7 +15,7 @@ use Rattle.relay.specs.declared.Relay.{Relay}
 use Rattle.relay.specs.declared.FrameAnswer.{FrameAnswer}
 use Rattle.relay.specs.declared.ResetAnswer.{ResetAnswer}
 use Rattle.relay.specs.Bits.{bitOf, enabledIn}
-use Rattle.relay.specs.Settings.{Kind, settingsOf, settingsSound, loss, over}
+use Rattle.relay.specs.Settings.{Kind, settingsOf, settingsSound, settled, loss, over}
 use Rattle.relay.specs.Sound.{soundOf}
 use Rattle.relay.specs.Relay.{channelAt, refusedFrame, refusedReset, inputRefusal, maskRefusal}
 use Rattle.history.specs.Calls.{Call, frame, reset, framesIn, Implementation, after}
@@ -65,7 +65,7 @@ module _ (d : Implementation) (drop pickup : List ℕ) where
     pub sound : soundOf (relayAfter calls) ≡ true
     pub settings : relayAfter calls .settings ≡ settingsOf drop pickup
     -- so a frame "found age 72" exactly where its number is 72 or more; "frame n goes to slot n mod 8"
-    pub age : relayAfter calls .age ≡ min 72 (framesIn calls)
+    pub age : relayAfter calls .age ≡ min settled (framesIn calls)
     pub slot : relayAfter calls .slot ≡ framesIn calls % 8
     pub samples : (c : ℕ) → c < 6 → channelAt (relayAfter calls) c .samples ≡ windowOf (channelHistory c calls) (framesIn calls)
     -- "A loss latch, or a current's over latch, is on exactly when .."; a voltage's over latch never is

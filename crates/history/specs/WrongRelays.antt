@@ -43,6 +43,6 @@ pub data Wrong (d : Implementation) : Type 0 where
   -- "growing a run over a disabled frame": the enable byte makes no difference to the relay handed back
   ignoresEnable : EachFrame d (λ r codes enable. d .frame r codes enable .relay ≡ d .frame r codes 127 .relay) → Wrong d
   -- m + 1 in place of each m: close to Z, and yet not "the six m"
-  oneTooMany : EachFrame d (λ r codes enable. (c : ℕ) → c < 6 → getD (d .frame r codes enable .amplitudes) c 0 ≡ suc (amplitudeIn r codes c)) → Wrong d
+  oneTooMany : EachFrame d (λ r codes enable. (c : ℕ) → c < 6 → getD (d .frame r codes enable .amplitudes) c 0 ≡ suc (amplitudeIn (r .slot) codes (r .channels) c)) → Wrong d
   -- no fresh relay at all
   refusesAll : ((drop pickup : List ℕ) → AcceptedSettings drop pickup → ¬ (d .fresh drop pickup .number ≡ 0)) → Wrong d

@@ -18,7 +18,7 @@ use Rattle.phasor.specs.declared.Points.{Points}
 use Rattle.phasor.specs.declared.Window.{Window}
 use Rattle.phasor.specs.Each.{table}
 use Rattle.phasor.specs.Cordic.{startOf, steps, lastX, endOf, scaledOf, amplitudeOf}
-use Rattle.phasor.specs.Lanes.{windowAt, WindowsSound, NeverAbove, pointAt, Short, AllShort, StartsOf, EndsOf}
+use Rattle.phasor.specs.Lanes.{channelWindow, WindowsSound, NeverAbove, pointAt, Short, AllShort, StartsOf, EndsOf}
 use Rattle.phasor.proofs.Each.{table-more, table-whole, table-same, getD-table}
 use Rattle.phasor.proofs.Trace.{not-negative}
 use Rattle.phasor.proofs.Magnitude.{Ranged, ranged}
@@ -71,17 +71,17 @@ starts-begin ws = record {
   filled = record { starts = λ k l. absurd (omega arith); short = λ k. rw (zero-lane 8 k) (record { right = tt; near = lit≤ tt }) };
 }
 
-pub starts-again : (ws : List Window) (c : ℕ) (p : Points) (s : Point) → WindowsSound ws → Starting ws c p → c < 6 → s ≡ startOf (windowAt ws c) →
+pub starts-again : (ws : List Window) (c : ℕ) (p : Points) (s : Point) → WindowsSound ws → Starting ws c p → c < 6 → s ≡ startOf (channelWindow ws c) →
     Starting ws (c + 1) (record { x = set (p .x) c (back (s .x)); y = set (p .y) c (back (s .y)) })
 starts-again ws c p s sound inv l e =
-    let short : Short s = rw e (start-short (windowAt ws c) (sound c l)) in
+    let short : Short s = rw e (start-short (channelWindow ws c) (sound c l)) in
     let new = point-back s (short-ranged s short) in
     let q : Point = record { x = back (s .x); y = back (s .y) } in record {
       at-most = omega arith;
       x-long = length-set (p .x) c (back (s .x)) ∙ inv .x-long;
       y-long = length-set (p .y) c (back (s .y)) ∙ inv .y-long;
       filled = record {
-        starts = λ k m. set-lane (λ (j : ℕ) (r : Point). j < c + 1 → r ≡ startOf (windowAt ws j)) p c q (omega arith) (omega arith)
+        starts = λ k m. set-lane (λ (j : ℕ) (r : Point). j < c + 1 → r ≡ startOf (channelWindow ws j)) p c q (omega arith) (omega arith)
             (λ h. new ∙ e) k (λ n h. inv .filled .starts k (omega arith)) m;
         short = λ k. set-lane (λ (j : ℕ) (r : Point). Short r) p c q (omega arith) (omega arith) (rw new short) k (λ n. inv .filled .short k);
       };
@@ -126,7 +126,7 @@ ends-again p c e q s inv l h =
 
 module _ (ws : List Window) (p : Points) (e : List ℤ) (starts : StartsOf ws 6 p) (ends : EndsOf p 8 e) where
   -- each lane's x ended where its window's does
-  end-is : (k : ℕ) → k < 6 → getD e k (pos 0) ≡ lastX (windowAt ws k)
+  end-is : (k : ℕ) → k < 6 → getD e k (pos 0) ≡ lastX (channelWindow ws k)
   unfolding lastX
   end-is k l = ends k (omega arith) ∙ ap endOf (starts .starts k l)
 
@@ -162,11 +162,11 @@ scaling-again ws p e c m r starts ends inv l h = record {
 }
 
 pub scaling-done : (ws : List Window) (p : Points) (e : List ℤ) (m : List ℕ) → StartsOf ws 6 p → EndsOf p 8 e → Scaling e 6 m →
-    m ≡ table 6 (λ k. amplitudeOf (windowAt ws k))
+    m ≡ table 6 (λ k. amplitudeOf (channelWindow ws k))
 unfolding amplitudeOf
 scaling-done ws p e m starts ends inv =
     table-whole m 6 (λ k. scaledOf (getD e k (pos 0))) (inv .long) (inv .filled)
-    ∙ table-same 6 (λ k. scaledOf (getD e k (pos 0))) (λ k. amplitudeOf (windowAt ws k)) (λ k l. ap scaledOf (end-is ws p e starts ends k l))
+    ∙ table-same 6 (λ k. scaledOf (getD e k (pos 0))) (λ k. amplitudeOf (channelWindow ws k)) (λ k l. ap scaledOf (end-is ws p e starts ends k l))
 
-pub never-above : (ws : List Window) (m : List ℕ) → WindowsSound ws → m ≡ table 6 (λ k. amplitudeOf (windowAt ws k)) → NeverAbove m
-never-above ws m sound value k l = rw (value, getD-table 6 (λ j. amplitudeOf (windowAt ws j)) 0 k l) (largest (windowAt ws k) (sound k l))
+pub never-above : (ws : List Window) (m : List ℕ) → WindowsSound ws → m ≡ table 6 (λ k. amplitudeOf (channelWindow ws k)) → NeverAbove m
+never-above ws m sound value k l = rw (value, getD-table 6 (λ j. amplitudeOf (channelWindow ws j)) 0 k l) (largest (channelWindow ws k) (sound k l))

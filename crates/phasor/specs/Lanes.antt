@@ -16,13 +16,13 @@ use Rattle.phasor.specs.Window.{windowSound}
 abbrev pub noWindow : Window
 noWindow = record { samples = [] }
 
--- the samples of channel c
-abbrev pub windowAt : List Window → ℕ → List ℤ
-windowAt ws c = getD ws c noWindow .samples
+-- the window of channel c
+abbrev pub channelWindow : List Window → ℕ → List ℤ
+channelWindow ws c = getD ws c noWindow .samples
 
 -- each of six windows is sound
 abbrev pub WindowsSound : List Window → Type 0
-WindowsSound ws = (c : ℕ) → c < 6 → windowSound (windowAt ws c) ≡ true
+WindowsSound ws = (c : ℕ) → c < 6 → windowSound (channelWindow ws c) ≡ true
 
 -- an amplitude "is never above 10,700"
 abbrev pub NeverAbove : List ℕ → Type 0
@@ -45,7 +45,7 @@ AllShort p = (c : ℕ) → Short (pointAt p c)
 
 -- the first n lanes hold the starts of the windows, and each lane is short
 pub record StartsOf (ws : List Window) (n : ℕ) (p : Points) : Type 0 where
-  pub starts : (c : ℕ) → c < n → pointAt p c ≡ startOf (windowAt ws c)
+  pub starts : (c : ℕ) → c < n → pointAt p c ≡ startOf (channelWindow ws c)
   pub short : AllShort p
 
 -- the first n numbers are where x ends in the lanes

@@ -10,7 +10,7 @@ ghost use lib.Signed.{nonNeg};
 ghost use Rattle.phasor.specs.Each.{table};
 ghost use Rattle.phasor.specs.Window.{sampleOf, sampleSound, windowSound};
 ghost use Rattle.phasor.specs.Cordic.{stepAt, steps, startOf, scaledOf, amplitudeOf};
-ghost use Rattle.phasor.specs.Lanes.{windowAt, WindowsSound, NeverAbove, Short, AllShort, StartsOf, EndsOf};
+ghost use Rattle.phasor.specs.Lanes.{channelWindow, WindowsSound, NeverAbove, Short, AllShort, StartsOf, EndsOf};
 
 // A channel's last eight samples, by slot.
 pub struct Window {
@@ -170,7 +170,7 @@ fn ends(p: Points) -> [i32; 8]
 // The amplitudes of six windows of samples -512 to 511.
 pub fn amplitudes(windows: [Window; 6]) -> [u16; 6]
     requires { ⌜ WindowsSound windows ⌝ }
-    ensures value { λ r. ⌜ r ≡ table 6 (λ c. amplitudeOf (windowAt windows c)) ⌝ }
+    ensures value { λ r. ⌜ r ≡ table 6 (λ c. amplitudeOf (channelWindow windows c)) ⌝ }
     ensures range { λ r. ⌜ NeverAbove r ⌝ }
 {
     let e = ends(starts(windows));

@@ -43,8 +43,8 @@ outputs r (codes ∷ more) =
 -- ---- one call on a relay that is handed in
 
 -- equal drop levels and equal pickup levels
-abbrev levels : ℕ → ℕ → Settings
-levels drop pickup = settingsOf (replicate 6 drop) (replicate 3 pickup)
+abbrev equalLevels : ℕ → ℕ → Settings
+equalLevels drop pickup = settingsOf (replicate 6 drop) (replicate 3 pickup)
 
 -- the levels of one channel
 abbrev own : ℕ → ℕ → Bool → Levels
@@ -60,22 +60,22 @@ abbrev still : List Channel
 still = replicate 6 (channel 0 0 false false)
 
 abbrev relay : ℕ → ℕ → List Channel → Relay
-relay age slot channels = record { channels = channels; age = age; slot = slot; settings = levels 819 3413 }
+relay age slot channels = record { channels = channels; age = age; slot = slot; settings = equalLevels 819 3413 }
 
 -- a frame of codes 512 that is accepted: the amplitudes are 0
-abbrev accepted : Relay → ℕ → FrameAnswer
-accepted r output = record { relay = r; number = 0; amplitudes = replicate 6 0; output = output }
+abbrev acceptedAnswer : Relay → ℕ → FrameAnswer
+acceptedAnswer r output = record { relay = r; number = 0; amplitudes = replicate 6 0; output = output }
 
-abbrev refused : Relay → ℕ → FrameAnswer
-refused r number = record { relay = r; number = number; amplitudes = replicate 6 0; output = 0 }
+abbrev refusedAnswer : Relay → ℕ → FrameAnswer
+refusedAnswer r number = record { relay = r; number = number; amplitudes = replicate 6 0; output = 0 }
 
-abbrev reset : Relay → ℕ → ResetAnswer
-reset r number = record { relay = r; number = number }
+abbrev resetAnswer : Relay → ℕ → ResetAnswer
+resetAnswer r number = record { relay = r; number = number }
 
 -- a settled relay with a loss run on each channel and an over run on each current; a channel after a first sample of 100
 abbrev currents : ℕ → ℕ → ℕ → Relay
 currents level lossRun overRun =
-    record { channels = replicate 3 (channel lossRun 0 false false) ++ replicate 3 (channel lossRun overRun false false); age = 72; slot = 0; settings = levels level level }
+    record { channels = replicate 3 (channel lossRun 0 false false) ++ replicate 3 (channel lossRun overRun false false); age = 72; slot = 0; settings = equalLevels level level }
 
 abbrev struck : ℕ → ℕ → Bool → Channel
 struck lossRun overRun overLatch =
@@ -90,8 +90,8 @@ pub record Examples : Type 0 where
   -- "Code 512 throughout, drop 1: loss latches in frame 87; in frame 86 none." Channel 4 has the wave and pickup 1604; 0, 1, 2 and 5 have code 512.
   figures : outputs (freshOf (replicate 6 1) (1603 ∷ 1604 ∷ 1604 ∷ []) .relay) (waves 11) ≡ replicate 75 0 ++ replicate 12 8 ++ (47 ∷ [])
   -- a fresh relay, at the ends of "1 to 10,700"; refusal 1 with the all-zero relay
-  fresh : freshOf (replicate 6 1) (replicate 3 10700) ≡ record { relay = record { channels = still; age = 0; slot = 0; settings = levels 1 10700 }; number = 0 }
-  drop-low : freshOf (0 ∷ replicate 5 1) (replicate 3 1) ≡ record { relay = record { channels = still; age = 0; slot = 0; settings = levels 0 0 }; number = 1 }
+  fresh : freshOf (replicate 6 1) (replicate 3 10700) ≡ record { relay = record { channels = still; age = 0; slot = 0; settings = equalLevels 1 10700 }; number = 0 }
+  drop-low : freshOf (0 ∷ replicate 5 1) (replicate 3 1) ≡ record { relay = record { channels = still; age = 0; slot = 0; settings = equalLevels 0 0 }; number = 1 }
   drop-last : freshOf (replicate 5 1 ++ (10701 ∷ [])) (replicate 3 1) .number ≡ 1
   pickup-high : freshOf (replicate 6 1) (10701 ∷ 1 ∷ 1 ∷ []) .number ≡ 1
   pickup-last : freshOf (replicate 6 1) (1 ∷ 1 ∷ 0 ∷ []) .number ≡ 1
@@ -106,9 +106,9 @@ pub record Examples : Type 0 where
   }
   -- the frame that takes age from 71 to 72 is not counted and leaves all runs as they were, enabled or not; a full run that was handed in turns its
   -- latch on all the same (step 4 is in every accepted frame)
-  not-counted : frameOf (relay 71 7 (channel 16 0 false false ∷ replicate 5 (channel 3 0 false false))) quiet 65 ≡ accepted (relay 72 0 (channel 16 0 true false ∷ replicate 5 (channel 3 0 false false))) 1
+  not-counted : frameOf (relay 71 7 (channel 16 0 false false ∷ replicate 5 (channel 3 0 false false))) quiet 65 ≡ acceptedAnswer (relay 72 0 (channel 16 0 true false ∷ replicate 5 (channel 3 0 false false))) 1
   -- a counted frame: a run grows by 1, turns its latch on at 16, and grows no more
-  grows : frameOf (relay 72 7 (channel 14 0 false false ∷ channel 15 0 false false ∷ replicate 4 (channel 16 0 true false))) quiet 127 ≡ accepted (relay 72 0 (channel 15 0 false false ∷ channel 16 0 true false ∷ replicate 4 (channel 16 0 true false))) 62
+  grows : frameOf (relay 72 7 (channel 14 0 false false ∷ channel 15 0 false false ∷ replicate 4 (channel 16 0 true false))) quiet 127 ≡ acceptedAnswer (relay 72 0 (channel 15 0 false false ∷ channel 16 0 true false ∷ replicate 4 (channel 16 0 true false))) 62
   -- at m = 400: a drop level of 400 is not met and one of 401 is; a pickup level of 400 is met and one of 401 is not. An over run at 3 becomes 4 and
   -- turns its latch on, and a voltage has none
   at-levels : frameOf (currents 400 9 3) (replicate 6 612) 127 ≡ record {
@@ -116,7 +116,7 @@ pub record Examples : Type 0 where
       channels = replicate 3 (struck 0 0 false) ++ replicate 3 (struck 0 4 true);
       age = 72;
       slot = 1;
-      settings = levels 400 400;
+      settings = equalLevels 400 400;
     };
     number = 0;
     amplitudes = replicate 6 400;
@@ -124,21 +124,21 @@ pub record Examples : Type 0 where
   }
   above-levels : frameOf (currents 401 9 3) (replicate 6 612) 127 .relay .channels ≡ replicate 6 (struck 10 0 false)
   -- a channel that is not enabled: its runs become 0, its latch stays, its output bit is 0; bit 6 off disables all
-  disabled : frameOf tripped quiet 66 ≡ accepted (relay 72 0 (channel 0 0 true false ∷ channel 16 0 true false ∷ replicate 4 (channel 0 0 true false))) 2
-  device-off : frameOf tripped quiet 63 ≡ accepted (relay 72 0 (replicate 6 (channel 0 0 true false))) 0
+  disabled : frameOf tripped quiet 66 ≡ acceptedAnswer (relay 72 0 (channel 0 0 true false ∷ channel 16 0 true false ∷ replicate 4 (channel 0 0 true false))) 2
+  device-off : frameOf tripped quiet 63 ≡ acceptedAnswer (relay 72 0 (replicate 6 (channel 0 0 true false))) 0
   -- a reset clears the channels that it names and nothing else, and age stays 72; mask 0 is accepted; bits 6 and 7 are refused
-  resets : resetOf tripped 5 ≡ reset (relay 72 7 (channel 0 0 false false ∷ channel 16 0 true false ∷ channel 0 0 false false ∷ replicate 3 (channel 16 0 true false))) 0
-  resets-over : resetOf (relay 72 7 (replicate 3 (channel 0 0 false false) ++ replicate 3 (channel 16 4 true true))) 16 ≡ reset (relay 72 7 (replicate 3 (channel 0 0 false false) ++ (channel 16 4 true true ∷ channel 0 0 false false ∷ channel 16 4 true true ∷ []))) 0
-  resets-none : resetOf tripped 0 ≡ reset tripped 0
-  bad-mask : resetOf tripped 64 ≡ reset tripped 5
-  bad-mask-7 : resetOf tripped 129 ≡ reset tripped 5
+  resets : resetOf tripped 5 ≡ resetAnswer (relay 72 7 (channel 0 0 false false ∷ channel 16 0 true false ∷ channel 0 0 false false ∷ replicate 3 (channel 16 0 true false))) 0
+  resets-over : resetOf (relay 72 7 (replicate 3 (channel 0 0 false false) ++ replicate 3 (channel 16 4 true true))) 16 ≡ resetAnswer (relay 72 7 (replicate 3 (channel 0 0 false false) ++ (channel 16 4 true true ∷ channel 0 0 false false ∷ channel 16 4 true true ∷ []))) 0
+  resets-none : resetOf tripped 0 ≡ resetAnswer tripped 0
+  bad-mask : resetOf tripped 64 ≡ resetAnswer tripped 5
+  bad-mask-7 : resetOf tripped 129 ≡ resetAnswer tripped 5
   -- "Code 1023 is accepted, 1024 refused."
   highest : frameOf tripped (1023 ∷ replicate 5 512) 127 .number ≡ 0
-  bad-code : frameOf tripped (replicate 5 512 ++ (1024 ∷ [])) 255 ≡ refused tripped 3
-  bad-enable : frameOf tripped quiet 128 ≡ refused tripped 4
+  bad-code : frameOf tripped (replicate 5 512 ++ (1024 ∷ [])) 255 ≡ refusedAnswer tripped 3
+  bad-enable : frameOf tripped quiet 128 ≡ refusedAnswer tripped 4
   -- a relay that is not sound is handed back as it was given, and that check comes first
-  unsound : frameOf (relay 73 0 still) (replicate 6 1024) 128 ≡ refused (relay 73 0 still) 2
-  unsound-reset : resetOf (relay 72 8 still) 128 ≡ reset (relay 72 8 still) 2
+  unsound : frameOf (relay 73 0 still) (replicate 6 1024) 128 ≡ refusedAnswer (relay 73 0 still) 2
+  unsound-reset : resetOf (relay 72 8 still) 128 ≡ resetAnswer (relay 72 8 still) 2
   zero-relay : frameOf (freshOf (replicate 6 0) (replicate 3 0) .relay) quiet 127 .number ≡ 2
   wide-sample : resetOf (relay 72 0 (replicate 5 (channel 0 0 false false) ++ (record { samples = pos 512 ∷ replicate 7 (pos 0); «loss_run» = 0; «over_run» = 0; «loss_latch» = false; «over_latch» = false } ∷ []))) 0 .number ≡ 2
   over-latch : resetOf (relay 72 0 (replicate 2 (channel 0 0 false false) ++ replicate 4 (channel 0 0 false true))) 0 .number ≡ 2

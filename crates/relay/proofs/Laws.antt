@@ -1,6 +1,6 @@
 -- Laws of the relay's definitions that hold with no code: what an accepted or a refused call is, what it makes of channel c, and that a
 -- fresh relay is sound and every accepted call leaves it so. Rests on the definitions, and on what a sound relay says of its parts.
-use Prim.Native.Nat.{ℕ, suc, _+_, _-_, _≤_, _<_, min}
+use Prim.Native.Nat.{ℕ, _+_, _-_, _≤_, _<_}
 use native.Mathlib.Omega.{arith}
 use mathlib.Core.Path.{_≡_, refl, _∙_}
 use mathlib.Core.Bool.{Bool, true, false, _&&_, _||_, not, cond, false≢true}
@@ -20,8 +20,8 @@ use Rattle.relay.specs.declared.Settings.{Settings}
 use Rattle.relay.specs.declared.Relay.{Relay}
 use Rattle.relay.specs.declared.FreshAnswer.{FreshAnswer}
 use Rattle.relay.specs.Bits.{bitOf, enabledIn}
-use Rattle.relay.specs.Settings.{isCurrent, settingsOf, settingsSound, levelsOf, loss}
-use Rattle.relay.specs.Channel.{noChannel, freshChannel, clearedOf, windowAfter, nextRun, channelAfter}
+use Rattle.relay.specs.Settings.{isCurrent, settingsOf, settingsSound, levelsOf, lossFrames, overFrames, settled, loss}
+use Rattle.relay.specs.Channel.{noChannel, freshChannel, clearedOf, windowAfter, runAfter, nextRun, channelAfter}
 use Rattle.relay.proofs.Sound.{Sound, sound-says, says-sound, code-le}
 use Rattle.relay.specs.Sound.{overSound, channelSound, channelsSound, soundOf}
 use Rattle.relay.specs.Relay.{channelAt, freshRelay, zeroRelay, freshRefusal, freshOf, counted, ageAfter, slotAfter, nextChannel, acceptedFrame, refusedFrame}
@@ -69,31 +69,36 @@ pub fresh-channel : (s : Settings) (c : ℕ) → c < 6 → channelAt (freshRelay
 unfolding freshRelay
 fresh-channel s c h = getD-replicate 6 c freshChannel noChannel h
 
-pub frame-channel : (r : Relay) (codes : List ℕ) (enable c : ℕ) → c < 6 → channelAt (acceptedFrame r codes enable .relay) c ≡ nextChannel r codes enable c
-unfolding acceptedFrame
-frame-channel r codes enable c h = getD-table 6 (nextChannel r codes enable) noChannel c h
+-- channel c after an accepted frame, by the relay
+abbrev pub nextOf : Relay → List ℕ → ℕ → ℕ → Channel
+nextOf r codes enable = nextChannel (r .settings) (r .slot) (counted r) codes enable (r .channels)
 
-pub reset-channel : (r : Relay) (mask c : ℕ) → c < 6 → channelAt (acceptedReset r mask .relay) c ≡ resetChannel r mask c
+pub frame-channel : (r : Relay) (codes : List ℕ) (enable c : ℕ) → c < 6
+    → channelAt (acceptedFrame r codes enable .relay) c ≡ nextOf r codes enable c
+unfolding acceptedFrame
+frame-channel r codes enable c h = getD-table 6 (nextOf r codes enable) noChannel c h
+
+pub reset-channel : (r : Relay) (mask c : ℕ) → c < 6 → channelAt (acceptedReset r mask .relay) c ≡ resetChannel mask (r .channels) c
 unfolding acceptedReset
-reset-channel r mask c h = getD-table 6 (resetChannel r mask) noChannel c h
+reset-channel r mask c h = getD-table 6 (resetChannel mask (r .channels)) noChannel c h
 
 -- ---- soundness of a channel
 
 -- a run stays within its length, and at 0 where no window meets the level
-run-le : (len run : ℕ) (counted feeds : Bool) → run ≤ len → cond counted (cond feeds (min len (suc run)) 0) run ≤ len
+run-le : (len run : ℕ) (counted feeds : Bool) → run ≤ len → runAfter counted feeds len run ≤ len
 run-le len run true true h = omega arith
 run-le len run true false h = omega arith
 run-le len run false feeds h = h
 
-run-none : (run : ℕ) (counted enabled : Bool) → run ≡ 0 → cond counted (cond (enabled && false) (min 4 (suc run)) 0) run ≡ 0
+run-none : (run : ℕ) (counted enabled : Bool) → run ≡ 0 → runAfter counted (enabled && false) overFrames run ≡ 0
 run-none run true true h = refl
 run-none run true false h = refl
 run-none run false enabled h = h
 
--- the over run and latch after a frame: a current's run stays within 4, a voltage's stay 0 and off
-over-sound : (current m counted enabled latch : Bool) (run next : ℕ) → next ≡ cond counted (cond (enabled && (current && m)) (min 4 (suc run)) 0) run
-    → cond current (leb run 4) (eqb run 0 && not latch) ≡ true → cond current (leb next 4) (eqb next 0 && not (latch || eqb next 4)) ≡ true
-over-sound true m counted enabled latch run next e s = le-leb next 4 (rw e (run-le 4 run counted (enabled && m) (leb-true run 4 s)))
+-- the over run and latch after a frame: a current's run stays within its length, a voltage's stay 0 and off
+over-sound : (current m counted enabled latch : Bool) (run next : ℕ) → next ≡ runAfter counted (enabled && (current && m)) overFrames run
+    → cond current (leb run overFrames) (eqb run 0 && not latch) ≡ true → cond current (leb next overFrames) (eqb next 0 && not (latch || eqb next overFrames)) ≡ true
+over-sound true m counted enabled latch run next e s = le-leb next overFrames (rw e (run-le overFrames run counted (enabled && m) (leb-true run overFrames s)))
 over-sound false m counted enabled true run next e s = absurd (false≢true (and-right (eqb run 0) false s))
 over-sound false m counted enabled false run next e s = rw (e ∙ run-none run counted enabled (eqb-true run 0 (and-left (eqb run 0) true s)))
 
@@ -103,11 +108,11 @@ channel-sound : (levels : Levels) (slot : ℕ) (counted enabled : Bool) (code : 
 unfolding channelSound channelAfter nextRun
 channel-sound levels slot counted enabled code ch h s =
     let window : List ℤ = windowAfter slot code ch in
-    let two : windowSound (ch .samples) && leb (ch .«loss_run») 16 ≡ true = and-left _ (overSound (levels .current) ch) s in
+    let two : windowSound (ch .samples) && leb (ch .«loss_run») lossFrames ≡ true = and-left _ (overSound (levels .current) ch) s in
     and-true _ _
-    (and-true _ _ (window-set (ch .samples) slot (sampleOf code) (and-left _ (leb (ch .«loss_run») 16) two) (sample-is-sound code h))
-    (le-leb _ 16 (run-le 16 (ch .«loss_run») counted (enabled && loss levels .meets window) (leb-true _ 16 (and-right (windowSound (ch .samples)) _ two)))))
-    (over-sound (levels .current) (leb (levels .pickup) (amplitudeOf window)) counted enabled (ch .«over_latch») (ch .«over_run») _ refl (and-right (windowSound (ch .samples) && leb (ch .«loss_run») 16) _ s))
+    (and-true _ _ (window-set (ch .samples) slot (sampleOf code) (and-left _ (leb (ch .«loss_run») lossFrames) two) (sample-is-sound code h))
+    (le-leb _ lossFrames (run-le lossFrames (ch .«loss_run») counted (enabled && loss levels .meets window) (leb-true _ lossFrames (and-right (windowSound (ch .samples)) _ two)))))
+    (over-sound (levels .current) (leb (levels .pickup) (amplitudeOf window)) counted enabled (ch .«over_latch») (ch .«over_run») _ refl (and-right (windowSound (ch .samples) && leb (ch .«loss_run») lossFrames) _ s))
 
 cleared-sound : (current : Bool) (ch : Channel) → channelSound current ch ≡ true → channelSound current (clearedOf ch) ≡ true
 unfolding channelSound
@@ -124,11 +129,11 @@ pub fresh-sound : (s : Settings) → settingsSound s ≡ true → soundOf (fresh
 unfolding soundOf channelsSound channelSound freshRelay freshChannel windowSound every
 fresh-sound s e = rw e
 
-age-le : (age : ℕ) → age ≤ 72 → ageAfter age ≤ 72
-age-le age h = by (ltb age 72) refl
+age-le : (age : ℕ) → age ≤ settled → ageAfter age ≤ settled
+age-le age h = by (ltb age settled) refl
   where
-    by : (b : Bool) → ltb age 72 ≡ b → cond b (age + 1) age ≤ 72
-    by true q = omega (arith, ltb-true age 72 q)
+    by : (b : Bool) → ltb age settled ≡ b → cond b (age + 1) age ≤ settled
+    by true q = omega (arith, ltb-true age settled q)
     by false q = h
 
 slot-le : (slot : ℕ) → slotAfter slot ≤ 7
@@ -140,7 +145,7 @@ slot-le slot = by (ltb slot 7) refl
 
 -- an accepted frame leaves a sound relay sound, and so does an accepted reset
 pub frame-sound : (r : Relay) (codes : List ℕ) (enable : ℕ) → soundOf r ≡ true → codesSound codes ≡ true → soundOf (acceptedFrame r codes enable .relay) ≡ true
-unfolding acceptedFrame codesSound nextChannel levelsOf
+unfolding acceptedFrame nextChannel levelsOf
 frame-sound r codes enable s h = says-sound (acceptedFrame r codes enable .relay) (next (sound-says r s))
   where
     next : Sound r → Sound (acceptedFrame r codes enable .relay)

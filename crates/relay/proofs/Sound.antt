@@ -13,33 +13,33 @@ use Rattle.phasor.proofs.Each.{and-true, and-left, and-right, every-at, every-t
 use Rattle.relay.specs.declared.Channel.{Channel}
 use Rattle.relay.specs.declared.Relay.{Relay}
 use Rattle.relay.specs.Bits.{bitOf}
-use Rattle.relay.specs.Settings.{isCurrent, settingsSound}
+use Rattle.relay.specs.Settings.{isCurrent, settingsSound, inRangeAt, settled}
 use Rattle.relay.specs.Sound.{channelSound, channelsSound, soundOf}
 use Rattle.relay.specs.Relay.{channelAt, codesSound, inputRefusal, frameRefusal}
 
 -- what the test of a relay says
 pub record Sound (r : Relay) : Type 0 where
   pub settings : settingsSound (r .settings) ≡ true
-  pub age : r .age ≤ 72
+  pub age : r .age ≤ settled
   pub slot : r .slot ≤ 7
   pub channel : (c : ℕ) → c < 6 → channelSound (isCurrent c) (channelAt r c) ≡ true
 
 pub sound-says : (r : Relay) → soundOf r ≡ true → Sound r
 unfolding soundOf channelsSound
 sound-says r s =
-    let three : settingsSound (r .settings) && leb (r .age) 72 && leb (r .slot) 7 ≡ true = and-left _ (channelsSound (r .channels)) s in
-    let two : settingsSound (r .settings) && leb (r .age) 72 ≡ true = and-left _ (leb (r .slot) 7) three in
+    let three : settingsSound (r .settings) && leb (r .age) settled && leb (r .slot) 7 ≡ true = and-left _ (channelsSound (r .channels)) s in
+    let two : settingsSound (r .settings) && leb (r .age) settled ≡ true = and-left _ (leb (r .slot) 7) three in
     record {
-      settings = and-left _ (leb (r .age) 72) two;
-      age = leb-true (r .age) 72 (and-right (settingsSound (r .settings)) _ two);
-      slot = leb-true (r .slot) 7 (and-right (settingsSound (r .settings) && leb (r .age) 72) _ three);
-      channel = every-at 6 _ (and-right (settingsSound (r .settings) && leb (r .age) 72 && leb (r .slot) 7) _ s);
+      settings = and-left _ (leb (r .age) settled) two;
+      age = leb-true (r .age) settled (and-right (settingsSound (r .settings)) _ two);
+      slot = leb-true (r .slot) 7 (and-right (settingsSound (r .settings) && leb (r .age) settled) _ three);
+      channel = every-at 6 _ (and-right (settingsSound (r .settings) && leb (r .age) settled && leb (r .slot) 7) _ s);
     }
 
 pub says-sound : (r : Relay) → Sound r → soundOf r ≡ true
 unfolding soundOf channelsSound
 says-sound r s =
-    and-true _ _ (and-true _ _ (and-true _ _ (s .settings) (le-leb (r .age) 72 (s .age))) (le-leb (r .slot) 7 (s .slot))) (every-true 6 _ (s .channel))
+    and-true _ _ (and-true _ _ (and-true _ _ (s .settings) (le-leb (r .age) settled (s .age))) (le-leb (r .slot) 7 (s .slot))) (every-true 6 _ (s .channel))
 
 -- an accepted frame has six codes in range
 pub input-codes : (codes : List ℕ) (enable : ℕ) → inputRefusal codes enable ≡ 0 → codesSound codes ≡ true
@@ -75,4 +75,9 @@ window-is-sound r h c l = window-of (isCurrent c) (channelAt r c) (sound-says r 
 
 pub code-le : (codes : List ℕ) → codesSound codes ≡ true → (c : ℕ) → c < 6 → getD codes c 0 ≤ 1023
 unfolding codesSound
-code-le codes h c l = leb-true (getD codes c 0) 1023 (every-at 6 (λ k. leb (getD codes k 0) 1023) h c l)
+code-le codes h c l = leb-true (getD codes c 0) 1023 (and-right (leb 0 (getD codes c 0)) _ (every-at 6 (inRangeAt 0 1023 codes) h c l))
+
+pub codes-in-range : (codes : List ℕ) → ((c : ℕ) → c < 6 → getD codes c 0 ≤ 1023) → codesSound codes ≡ true
+unfolding codesSound
+codes-in-range codes h =
+    every-true 6 (inRangeAt 0 1023 codes) (λ c l. and-true _ _ (le-leb 0 (getD codes c 0) (omega arith)) (le-leb (getD codes c 0) 1023 (h c l)))

@@ -27,10 +27,13 @@ clearedOf ch = record { samples = ch .samples; «loss_run» = 0; «over_run» = 
 abbrev pub windowAfter : ℕ → ℕ → Channel → List ℤ
 windowAfter slot code ch = set (ch .samples) slot (sampleOf code)
 
--- a run after steps 2 and 3: as it was in a frame that is not counted; otherwise grown by 1 up to its length where the channel is
--- enabled and the window meets the level, else 0
+-- a run after steps 2 and 3: as it was in a frame that is not counted; otherwise grown by 1 up to its length where it is met, else 0
+abbrev pub runAfter : Bool → Bool → ℕ → ℕ → ℕ
+runAfter counted met len run = cond counted (cond met (min len (suc run)) 0) run
+
+-- it is met where the channel is enabled and the window meets the level
 unfoldable pub nextRun : Kind → Bool → Bool → List ℤ → ℕ → ℕ
-nextRun kind counted enabled window run = cond counted (cond (enabled && kind .meets window) (min (kind .len) (suc run)) 0) run
+nextRun kind counted enabled window run = runAfter counted (enabled && kind .meets window) (kind .len) run
 
 -- a latch after step 4, in every accepted frame: a run at its length turns it on
 abbrev pub nextLatch : Kind → ℕ → Bool → Bool

@@ -3,9 +3,10 @@
 use Prim.Native.Nat.{ℕ, _+_}
 use mathlib.Core.Bool.{Bool, _&&_, _||_, not, cond}
 use mathlib.Core.List.{List}
+use lib.IntN.{ℤ}
 use lib.Dec.{ltb, leb, eqb}
 use lib.ListN.{getD, replicate}
-use Rattle.phasor.specs.Each.{every, table}
+use Rattle.phasor.specs.Each.{table}
 use Rattle.phasor.specs.Cordic.{amplitudeOf}
 use Rattle.relay.specs.declared.Channel.{Channel}
 use Rattle.relay.specs.declared.Settings.{Settings}
@@ -14,7 +15,7 @@ use Rattle.relay.specs.declared.FreshAnswer.{FreshAnswer}
 use Rattle.relay.specs.declared.FrameAnswer.{FrameAnswer}
 use Rattle.relay.specs.declared.ResetAnswer.{ResetAnswer}
 use Rattle.relay.specs.Bits.{bitOf, bitsBelow, enabledIn}
-use Rattle.relay.specs.Settings.{settingsOf, settingsSound, levelsOf}
+use Rattle.relay.specs.Settings.{settingsOf, settingsSound, levelsOf, inRange, settled}
 use Rattle.relay.specs.Channel.{noChannel, freshChannel, clearedOf, windowAfter, channelAfter, latchOn}
 use Rattle.relay.specs.Sound.{soundOf}
 
@@ -47,50 +48,57 @@ freshOf drop pickup =
 
 -- a counted frame, a term of document 01, "is one that found age 72"; a sound relay's age is at most 72
 abbrev pub counted : Relay → Bool
-counted r = leb 72 (r .age)
+counted r = leb settled (r .age)
 
 -- step 2: "if age is below 72, adds 1 to age"
 abbrev pub ageAfter : ℕ → ℕ
-ageAfter age = cond (ltb age 72) (age + 1) age
+ageAfter age = cond (ltb age settled) (age + 1) age
 
 -- step 5: "advances the slot, 7 back to 0"
 abbrev pub slotAfter : ℕ → ℕ
 slotAfter slot = cond (ltb slot 7) (slot + 1) 0
 
--- channel c after steps 1 to 4
-unfoldable pub nextChannel : Relay → List ℕ → ℕ → ℕ → Channel
-nextChannel r codes enable c =
-    channelAfter (levelsOf (r .settings) c) (r .slot) (counted r) (enabledIn enable c) (getD codes c 0) (channelAt r c)
+-- What a frame makes of channel c is said of the parts of the relay that it goes by: the settings, the slot, whether the frame is counted, and the
+-- channels. The code's functions are handed these, and not the whole relay.
 
--- step 1: the amplitude that is found for channel c
-unfoldable pub amplitudeIn : Relay → List ℕ → ℕ → ℕ
-amplitudeIn r codes c = amplitudeOf (windowAfter (r .slot) (getD codes c 0) (channelAt r c))
+-- step 1: the window with the frame's sample in its slot, and its amplitude
+abbrev pub windowIn : ℕ → List ℕ → List Channel → ℕ → List ℤ
+windowIn slot codes channels c = windowAfter slot (getD codes c 0) (getD channels c noChannel)
+
+unfoldable pub amplitudeIn : ℕ → List ℕ → List Channel → ℕ → ℕ
+amplitudeIn slot codes channels c = amplitudeOf (windowIn slot codes channels c)
+
+-- channel c after steps 1 to 4
+unfoldable pub nextChannel : Settings → ℕ → Bool → List ℕ → ℕ → List Channel → ℕ → Channel
+nextChannel settings slot isCounted codes enable channels c =
+    channelAfter (levelsOf settings c) slot isCounted (enabledIn enable c) (getD codes c 0) (getD channels c noChannel)
 
 -- step 5: "bit c is 1 if channel c has a latch on and is enabled in this frame"
-unfoldable pub outputIn : Relay → List ℕ → ℕ → ℕ → Bool
-outputIn r codes enable c = latchOn (nextChannel r codes enable c) && enabledIn enable c
+unfoldable pub outputIn : Settings → ℕ → Bool → List ℕ → ℕ → List Channel → ℕ → Bool
+outputIn settings slot isCounted codes enable channels c = latchOn (nextChannel settings slot isCounted codes enable channels c) && enabledIn enable c
 
 -- "An accepted frame, in order": its five steps
 unfoldable pub acceptedFrame : Relay → List ℕ → ℕ → FrameAnswer
 acceptedFrame r codes enable =
     record {
       relay = record {
-        channels = table 6 (nextChannel r codes enable);  -- 1 stores the samples, 2 and 3 count the runs, 4 turns latches on
+        channels = table 6 (nextChannel (r .settings) (r .slot) (counted r) codes enable (r .channels));  -- 1 stores the samples, 2 and 3 count the runs, 4 turns latches on
         age = ageAfter (r .age);  -- 2
         slot = slotAfter (r .slot);  -- 5
         settings = r .settings;
       };
       number = 0;
-      amplitudes = table 6 (amplitudeIn r codes);  -- 1 finds the six amplitudes, 5 answers them
-      output = bitsBelow 6 (outputIn r codes enable);  -- 5
+      amplitudes = table 6 (amplitudeIn (r .slot) codes (r .channels));  -- 1 finds the six amplitudes, 5 answers them
+      output = bitsBelow 6 (outputIn (r .settings) (r .slot) (counted r) codes enable (r .channels));  -- 5
     }
 
 -- what refusals 2, 3 and 4 return: "relay as given, amplitudes and output 0"
 unfoldable pub refusedFrame : Relay → ℕ → FrameAnswer
 refusedFrame r number = record { relay = r; number = number; amplitudes = replicate 6 0; output = 0 }
 
+-- "A code is 0 to 1023"
 unfoldable pub codesSound : List ℕ → Bool
-codesSound codes = every 6 (λ c. leb (getD codes c 0) 1023)
+codesSound codes = inRange 6 0 1023 codes
 
 -- "codes, enable byte .. alone decide"
 unfoldable pub inputRefusal : List ℕ → ℕ → ℕ
@@ -114,14 +122,14 @@ frameOf r codes enable =
 -- ---- a reset
 
 -- channel c after a reset
-unfoldable pub resetChannel : Relay → ℕ → ℕ → Channel
-resetChannel r mask c = cond (bitOf mask c) (clearedOf (channelAt r c)) (channelAt r c)
+unfoldable pub resetChannel : ℕ → List Channel → ℕ → Channel
+resetChannel mask channels c = cond (bitOf mask c) (clearedOf (getD channels c noChannel)) (getD channels c noChannel)
 
 -- "it clears runs and latches of the named channels and nothing else"
 unfoldable pub acceptedReset : Relay → ℕ → ResetAnswer
 acceptedReset r mask =
     record {
-      relay = record { channels = table 6 (resetChannel r mask); age = r .age; slot = r .slot; settings = r .settings };
+      relay = record { channels = table 6 (resetChannel mask (r .channels)); age = r .age; slot = r .slot; settings = r .settings };
       number = 0;
     }
 

@@ -8,17 +8,17 @@ use Rattle.phasor.specs.Each.{every}
 use Rattle.phasor.specs.Window.{windowSound}
 use Rattle.relay.specs.declared.Channel.{Channel}
 use Rattle.relay.specs.declared.Relay.{Relay}
-use Rattle.relay.specs.Settings.{isCurrent, settingsSound}
+use Rattle.relay.specs.Settings.{isCurrent, settingsSound, lossFrames, overFrames, settled}
 use Rattle.relay.specs.Channel.{noChannel}
 
 abbrev pub overSound : Bool → Channel → Bool
-overSound current ch = cond current (leb (ch .«over_run») 4) (eqb (ch .«over_run») 0 && not (ch .«over_latch»))
+overSound current ch = cond current (leb (ch .«over_run») overFrames) (eqb (ch .«over_run») 0 && not (ch .«over_latch»))
 
 unfoldable pub channelSound : Bool → Channel → Bool
-channelSound current ch = windowSound (ch .samples) && leb (ch .«loss_run») 16 && overSound current ch
+channelSound current ch = windowSound (ch .samples) && leb (ch .«loss_run») lossFrames && overSound current ch
 
 unfoldable pub channelsSound : List Channel → Bool
 channelsSound channels = every 6 (λ c. channelSound (isCurrent c) (getD channels c noChannel))
 
 unfoldable pub soundOf : Relay → Bool
-soundOf r = settingsSound (r .settings) && leb (r .age) 72 && leb (r .slot) 7 && channelsSound (r .channels)
+soundOf r = settingsSound (r .settings) && leb (r .age) settled && leb (r .slot) 7 && channelsSound (r .channels)

@@ -1,7 +1,7 @@
 // The checks that a call can be refused by: settings, codes, and whether a relay is sound (document 01, end of "Frames, runs, latches, resets").
 ghost use mathlib.Core.Path.{_≡_};
-ghost use Rattle.relay.specs.Inside.{inRange};
-ghost use Rattle.relay.specs.Settings.{settingsSound};
+ghost use lib.ListN.{length};
+ghost use Rattle.relay.specs.Settings.{inRange, settingsSound};
 ghost use Rattle.relay.specs.Sound.{overSound, channelSound, channelsSound, soundOf};
 ghost use Rattle.relay.specs.Relay.{codesSound};
 use crate::Channel;
@@ -17,7 +17,7 @@ const MOST_CODE: u16 = 1023;
 
 // Each of the values is at least `least` and at most `most`.
 fn in_range(values: &[u16], least: u16, most: u16) -> bool
-    ensures { λ r. ⌜ r ≡ inRange least most (now (values .entry)) ⌝ }
+    ensures { λ r. ⌜ r ≡ inRange (length (now (values .entry))) least most (now (values .entry)) ⌝ }
 {
     let mut ok = true;
     let mut k: usize = 0;

@@ -2,12 +2,12 @@
 // (document 01, "Frames, runs, latches, resets").
 ghost use mathlib.Core.Path.{_≡_};
 ghost use mathlib.Core.Bool.{true, cond};
-ghost use Prim.Native.Nat.{suc, min, _≤_, _<_};
+ghost use Prim.Native.Nat.{_≤_, _<_};
 ghost use Rattle.phasor.specs.Cordic.{amplitudeOf};
 ghost use Rattle.relay.specs.Settings.{levelsOf};
-ghost use Rattle.relay.specs.Channel.{freshChannel, clearedOf, windowAfter, channelAfter};
+ghost use Rattle.relay.specs.Channel.{freshChannel, clearedOf, windowAfter, runAfter, channelAfter};
 ghost use Rattle.relay.specs.Relay.{codesSound, ageAfter, slotAfter};
-ghost use Rattle.relay.specs.Inside.{windowOf, windowsOf, amplitudesOf, madeOf, resetsOf};
+ghost use Rattle.relay.specs.Inside.{storedWindow, windowsOf, amplitudesOf, madeOf, resetsOf};
 use crate::Channel;
 use crate::Levels;
 use crate::Made;
@@ -27,7 +27,7 @@ pub(crate) const OVER_FRAMES: u8 = 4;
 // A run after steps 2 and 3: kept in a frame that is not counted, otherwise grown up to its length where the channel is enabled and its level
 // met, else 0.
 fn run_after(counted: bool, met: bool, run: u8, len: u8) -> u8
-    ensures { λ r. ⌜ r ≡ cond counted (cond met (min len (suc run)) 0) run ⌝ }
+    ensures { λ r. ⌜ r ≡ runAfter counted met len run ⌝ }
 {
     if !counted {
         return run;
@@ -72,7 +72,7 @@ impl Channel {
     // The window with the frame's sample in its slot.
     fn window_after(self, slot: usize, code: u16) -> phasor::Window
         requires { ⌜ (slot < 8) × (code ≤ 1023) ⌝ }
-        ensures { λ r. ⌜ r ≡ windowOf slot code self ⌝ }
+        ensures { λ r. ⌜ r ≡ storedWindow slot code self ⌝ }
     {
         let mut samples = self.samples;
         let s = phasor::sample(code);

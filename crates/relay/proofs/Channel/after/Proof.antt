@@ -1,24 +1,24 @@
 -- `Channel::after` meets its contract: the window is that of `window_after`, and the runs are those that `run_after` answers.
-use Prim.Native.Nat.{ℕ, suc, min}
+use Prim.Native.Nat.{ℕ}
 use Rattle.phasor.specs.Cordic.{amplitudeOf}
 use Rattle.phasor.specs.declared.Window.{Window}
-use Rattle.relay.specs.Channel.{windowAfter, nextRun, nextLatch, channelAfter}
-use Rattle.relay.specs.Inside.{windowOf}
+use Rattle.relay.specs.Channel.{windowAfter, runAfter, nextRun, nextLatch, channelAfter}
+use Rattle.relay.specs.Inside.{storedWindow}
 use Rattle.relay.specs.Settings.{loss, over}
 use Rattle.relay.specs.declared.Channel.{Channel}
 use Rattle.relay.specs.declared.Levels.{Levels}
 use borrow.Author.Needs.{needs}
 use lib.Dec.{ltb, leb}
-use mathlib.Core.Bool.{Bool, _&&_, cond}
+use mathlib.Core.Bool.{Bool, _&&_}
 use mathlib.Core.Path.{_≡_}
 use Rattle.relay.proofs.Channel.after.Statement.{statement}
 use Rattle.relay.proofs.Channel.after.Tie as tie
 
 made : (levels : Levels) (slot : ℕ) (counted enabled : Bool) (code m lossRun overRun : ℕ) (ch : Channel) (w : Window)
-    → w ≡ windowOf slot code ch
+    → w ≡ storedWindow slot code ch
     → m ≡ amplitudeOf (windowAfter slot code ch)
-    → lossRun ≡ cond counted (cond (enabled && ltb m (levels .drop)) (min (loss levels .len) (suc (ch .«loss_run»))) 0) (ch .«loss_run»)
-    → overRun ≡ cond counted (cond (enabled && (levels .current && leb (levels .pickup) m)) (min (over levels .len) (suc (ch .«over_run»))) 0) (ch .«over_run»)
+    → lossRun ≡ runAfter counted (enabled && ltb m (levels .drop)) (loss levels .len) (ch .«loss_run»)
+    → overRun ≡ runAfter counted (enabled && (levels .current && leb (levels .pickup) m)) (over levels .len) (ch .«over_run»)
     → _≡_ {A = Channel} (record {
       samples = w .samples;
       «loss_run» = lossRun;

@@ -3,7 +3,7 @@ use Prim.Native.Nat.{ℕ, _≤_}
 use Rattle.phasor.proofs.Samples.{sample-back}
 use Rattle.phasor.specs.Window.{sampleOf}
 use Rattle.phasor.specs.declared.Window.{Window}
-use Rattle.relay.specs.Inside.{windowOf}
+use Rattle.relay.specs.Inside.{storedWindow}
 use Rattle.relay.specs.declared.Channel.{Channel}
 use borrow.Author.Needs.{needs}
 use lib.IntN.{ℤ}
@@ -14,7 +14,7 @@ use mir.Val.{toZ, ofZ}
 use Rattle.relay.proofs.Channel.window_after.Statement.{statement}
 use Rattle.relay.proofs.Channel.window_after.Tie as tie
 
-stored : (slot code : ℕ) (ch : Channel) (s : ℤ) → code ≤ 1023 → s ≡ sampleOf code → _≡_ {A = Window} (record { samples = set (ch .samples) slot (toZ w16 (ofZ w16 s)) }) (windowOf slot code ch)
+stored : (slot code : ℕ) (ch : Channel) (s : ℤ) → code ≤ 1023 → s ≡ sampleOf code → _≡_ {A = Window} (record { samples = set (ch .samples) slot (toZ w16 (ofZ w16 s)) }) (storedWindow slot code ch)
 stored slot code ch s h e = rw (e, sample-back code h)
 
 sample-requires : tie.Need-sample-requires

@@ -1,7 +1,7 @@
 -- `Relay::accepted_reset` meets its contract: the six channels, and all else as it was.
 use Prim.Native.Nat.{ℕ}
-use Rattle.relay.specs.Inside.{resetAt, resetsOf}
-use Rattle.relay.specs.Relay.{resetChannel, acceptedReset}
+use Rattle.relay.specs.Inside.{resetsOf}
+use Rattle.relay.specs.Relay.{acceptedReset}
 use Rattle.relay.specs.declared.Channel.{Channel}
 use Rattle.relay.specs.declared.Relay.{Relay}
 use Rattle.relay.specs.declared.ResetAnswer.{ResetAnswer}
@@ -12,7 +12,7 @@ use Rattle.relay.proofs.Relay.accepted_reset.Statement.{statement}
 use Rattle.relay.proofs.Relay.accepted_reset.Tie as tie
 
 made : (r : Relay) (mask : ℕ) (channels : List Channel) → channels ≡ resetsOf mask (r .channels) → _≡_ {A = ResetAnswer} (record { relay = record { channels = channels; age = r .age; slot = r .slot; settings = r .settings }; number = 0 }) (acceptedReset r mask)
-unfolding acceptedReset resetChannel resetsOf resetAt
+unfolding acceptedReset resetsOf
 made r mask channels e = rw e
 
 channels-reset-requires : tie.Need-channels-reset-requires

@@ -1,5 +1,5 @@
 -- `Relay::sound` meets its contract: its four tests.
-use Rattle.relay.specs.Settings.{settingsSound}
+use Rattle.relay.specs.Settings.{settingsSound, settled}
 use Rattle.relay.specs.Sound.{channelsSound, soundOf}
 use Rattle.relay.specs.declared.Relay.{Relay}
 use borrow.Author.Needs.{needs}
@@ -9,7 +9,7 @@ use mathlib.Core.Path.{_≡_}
 use Rattle.relay.proofs.Relay.sound.Statement.{statement}
 use Rattle.relay.proofs.Relay.sound.Tie as tie
 
-four-tests : (r : Relay) (s t : Bool) → s ≡ settingsSound (r .settings) → t ≡ channelsSound (r .channels) → s && leb (r .age) 72 && leb (r .slot) 7 && t ≡ soundOf r
+four-tests : (r : Relay) (s t : Bool) → s ≡ settingsSound (r .settings) → t ≡ channelsSound (r .channels) → s && leb (r .age) settled && leb (r .slot) 7 && t ≡ soundOf r
 unfolding soundOf
 four-tests r s t e f = rw (e, f)
 

@@ -1,7 +1,6 @@
 -- `Settings::sound` meets its contract: six drop levels and three pickup levels are in range.
 use Rattle.relay.proofs.Filled.{length-mapped}
-use Rattle.relay.specs.Inside.{inRange}
-use Rattle.relay.specs.Settings.{dropsSound, pickupsSound, settingsSound}
+use Rattle.relay.specs.Settings.{inRange, dropsSound, pickupsSound, settingsSound}
 use Rattle.relay.specs.declared.Settings.{Settings}
 use borrow.Author.Needs.{needs}
 use lib.ListN.{length}
@@ -10,8 +9,8 @@ use mathlib.Core.Path.{_≡_}
 use Rattle.relay.proofs.Settings.sound.Statement.{statement}
 use Rattle.relay.proofs.Settings.sound.Tie as tie
 
-nine-levels : (s : Settings) (d p : Bool) → length (s .drop) ≡ 6 → length (s .pickup) ≡ 3 → d ≡ inRange 1 10700 (s .drop) → p ≡ inRange 1 10700 (s .pickup) → d && p ≡ settingsSound s
-unfolding inRange dropsSound pickupsSound
+nine-levels : (s : Settings) (d p : Bool) → length (s .drop) ≡ 6 → length (s .pickup) ≡ 3 → d ≡ inRange (length (s .drop)) 1 10700 (s .drop) → p ≡ inRange (length (s .pickup)) 1 10700 (s .pickup) → d && p ≡ settingsSound s
+unfolding dropsSound pickupsSound
 nine-levels s d p six three e f = rw (e, f, six, three)
 
 slice-aggregate-in-range : tie.Need-slice-aggregate-in-range

@@ -2,7 +2,7 @@
 use Prim.Native.Nat.{ℕ, _+_, _-_, _<_, _≤_}
 use Rattle.phasor.proofs.Each.{every-step}
 use Rattle.phasor.specs.Each.{every}
-use Rattle.relay.specs.Inside.{rangeAt, inRange}
+use Rattle.relay.specs.Settings.{inRangeAt, inRange}
 use borrow.Author.Needs.{needs}
 use lib.ListN.{length}
 use mathlib.Core.Bool.{Bool, true, _&&_}
@@ -14,20 +14,19 @@ use Rattle.relay.proofs.checks.in_range.Tie as tie
 
 record Tested (least most : ℕ) (values : List ℕ) (ok : Bool) (k : ℕ) : Type 0 where
   within : k ≤ length values
-  tested : ok ≡ every k (rangeAt least most values)
+  tested : ok ≡ every k (inRangeAt least most values)
 
 begin : (least most : ℕ) (values : List ℕ) → Tested least most values true 0
 unfolding every
 begin least most values = record { within = omega arith; tested = refl }
 
-again : (least most : ℕ) (values : List ℕ) (ok : Bool) (k : ℕ) → Tested least most values ok k → k < length values → Tested least most values (ok && rangeAt least most values k) (k + 1)
-again least most values ok k t h = record { within = omega arith; tested = every-step k (rangeAt least most values) ok _ (t .tested) refl }
+again : (least most : ℕ) (values : List ℕ) (ok : Bool) (k : ℕ) → Tested least most values ok k → k < length values → Tested least most values (ok && inRangeAt least most values k) (k + 1)
+again least most values ok k t h = record { within = omega arith; tested = every-step k (inRangeAt least most values) ok _ (t .tested) refl }
 
-done : (least most : ℕ) (values : List ℕ) (ok : Bool) (k : ℕ) → Tested least most values ok k → length values ≤ k → ok ≡ inRange least most values
-unfolding inRange
+done : (least most : ℕ) (values : List ℕ) (ok : Bool) (k : ℕ) → Tested least most values ok k → length values ≤ k → ok ≡ inRange (length values) least most values
 done least most values ok k t h =
     let w = t .within in
-    t .tested ∙ ap (λ (n : ℕ). every n (rangeAt least most values)) (omega arith)
+    t .tested ∙ ap (λ (n : ℕ). every n (inRangeAt least most values)) (omega arith)
 
 abbrev Inv-loop : tie.InvT-loop
 Inv-loop values least most ok₀ k₀ ok k = Tested least most values ok k

@@ -7,7 +7,8 @@ use Rattle.relay.proofs.Output.{bits-more, bits-lt}
 use Rattle.relay.proofs.Sound.{code-le}
 use Rattle.relay.specs.Bits.{bitsBelow, enabledIn}
 use Rattle.relay.specs.Channel.{noChannel, windowAfter, channelAfter}
-use Rattle.relay.specs.Inside.{amplitudeAt, amplitudesOf, madeAt, bitAt, madeOf}
+use Rattle.relay.specs.Inside.{amplitudesOf, madeOf}
+use Rattle.relay.specs.Relay.{amplitudeIn, nextChannel, outputIn}
 use Rattle.relay.specs.Settings.{levelsOf}
 use Rattle.relay.specs.declared.Channel.{Channel}
 use Rattle.relay.specs.declared.Levels.{Levels}
@@ -23,12 +24,12 @@ use Rattle.relay.proofs.steps.channels_after.Statement.{statement}
 use Rattle.relay.proofs.steps.channels_after.Tie as tie
 
 amplitude-is : (slot : ℕ) (codes : List ℕ) (old : List Channel) (amplitudes : List ℕ) (c : ℕ) → amplitudes ≡ amplitudesOf slot codes old → c < 6 → getD amplitudes c 0 ≡ amplitudeOf (windowAfter slot (getD codes c 0) (getD old c noChannel))
-unfolding amplitudesOf amplitudeAt
-amplitude-is slot codes old amplitudes c e h = rw e (getD-table 6 (amplitudeAt slot codes old) 0 c h)
+unfolding amplitudesOf amplitudeIn
+amplitude-is slot codes old amplitudes c e h = rw e (getD-table 6 (amplitudeIn slot codes old) 0 c h)
 
 record Making (settings : Settings) (slot : ℕ) (counted : Bool) (codes : List ℕ) (enable : ℕ) (old channels : List Channel) (output c : ℕ) : Type 0 where
-  filled : Filled 6 (madeAt settings slot counted codes enable old) channels c
-  bits : output ≡ bitsBelow c (bitAt settings slot counted codes enable old)
+  filled : Filled 6 (nextChannel settings slot counted codes enable old) channels c
+  bits : output ≡ bitsBelow c (outputIn settings slot counted codes enable old)
 
 begin : (settings : Settings) (slot : ℕ) (counted : Bool) (codes : List ℕ) (enable : ℕ) (old : List Channel) → length old ≡ 6 → Making settings slot counted codes enable old old 0 0
 unfolding bitsBelow
@@ -42,10 +43,10 @@ module _ (settings : Settings) (slot : ℕ) (counted : Bool) (codes : List ℕ) 
       → ch ≡ channelAfter levels slot counted enabled (getD codes c 0) (getD old c noChannel)
       → out ≡ output + cond ((ch .«loss_latch» || ch .«over_latch») && enabled) (2 ^ c) 0
       → Making settings slot counted codes enable old (set channels c ch) out (c + 1)
-  unfolding madeAt bitAt
+  unfolding nextChannel outputIn
   again levels enabled ch out h e l q o =
-      let made : ch ≡ madeAt settings slot counted codes enable old c = rw (q, e, l) in
-      let on : (ch .«loss_latch» || ch .«over_latch») && enabled ≡ bitAt settings slot counted codes enable old c = rw (made, e) in
+      let made : ch ≡ nextChannel settings slot counted codes enable old c = rw (q, e, l) in
+      let on : (ch .«loss_latch» || ch .«over_latch») && enabled ≡ outputIn settings slot counted codes enable old c = rw (made, e) in
       record { filled = filled-more 6 _ channels c ch (making .filled) h made; bits = o ∙ bits-more c _ output _ (making .bits) on }
 
   output-lt : output < 2 ^ c

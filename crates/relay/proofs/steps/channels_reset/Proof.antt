@@ -3,7 +3,8 @@ use Prim.Native.Nat.{ℕ, _-_}
 use Rattle.relay.proofs.Filled.{Filled, filled-none, filled-more, filled-all, length-mapped}
 use Rattle.relay.specs.Bits.{bitOf}
 use Rattle.relay.specs.Channel.{noChannel, clearedOf}
-use Rattle.relay.specs.Inside.{resetAt, resetsOf}
+use Rattle.relay.specs.Inside.{resetsOf}
+use Rattle.relay.specs.Relay.{resetChannel}
 use Rattle.relay.specs.declared.Channel.{Channel}
 use borrow.Author.Needs.{needs}
 use lib.ListN.{getD}
@@ -13,12 +14,12 @@ use mathlib.Core.Path.{_≡_}
 use Rattle.relay.proofs.steps.channels_reset.Statement.{statement}
 use Rattle.relay.proofs.steps.channels_reset.Tie as tie
 
-reset : (mask c : ℕ) (old : List Channel) (b : Bool) (ch : Channel) → b ≡ bitOf mask c → ch ≡ cond b (clearedOf (getD old c noChannel)) (getD old c noChannel) → ch ≡ resetAt mask old c
-unfolding resetAt
+reset : (mask c : ℕ) (old : List Channel) (b : Bool) (ch : Channel) → b ≡ bitOf mask c → ch ≡ cond b (clearedOf (getD old c noChannel)) (getD old c noChannel) → ch ≡ resetChannel mask old c
+unfolding resetChannel
 reset mask c old b ch e q = rw (q, e)
 
 abbrev Inv-loop : tie.InvT-loop
-Inv-loop mask old channels₀ c₀ channels c = Filled 6 (resetAt mask old) channels c
+Inv-loop mask old channels₀ c₀ channels c = Filled 6 (resetChannel mask old) channels c
 
 abbrev μ-loop : tie.MeasureT-loop
 μ-loop mask old channels₀ c₀ channels c = 6 - c

@@ -2,14 +2,14 @@
 use Prim.Native.Nat.{_-_}
 use Rattle.relay.proofs.Filled.{Filled, filled-none, filled-more, filled-all}
 use Rattle.relay.proofs.Sound.{code-le}
-use Rattle.relay.specs.Inside.{windowIn, windowsOf}
+use Rattle.relay.specs.Inside.{storedAt, windowsOf}
 use borrow.Author.Needs.{needs}
 use mathlib.Core.Path.{refl}
 use Rattle.relay.proofs.steps.windows_after.Statement.{statement}
 use Rattle.relay.proofs.steps.windows_after.Tie as tie
 
 abbrev Inv-loop : tie.InvT-loop
-Inv-loop slot channels codes windows₀ c₀ windows c = Filled 6 (windowIn slot codes channels) windows c
+Inv-loop slot channels codes windows₀ c₀ windows c = Filled 6 (storedAt slot codes channels) windows c
 
 abbrev μ-loop : tie.MeasureT-loop
 μ-loop slot channels codes windows₀ c₀ windows c = 6 - c
