@@ -5,7 +5,7 @@ use mathlib.Core.List.{List}
 use lib.ListN.{length}
 use native.Mathlib.Omega.{arith}
 use borrow.Author.Tests.{le-leb, lt-leb, eq-eqb, ne-eqb}
-use Rattle.cells.specs.Excerpt.{within, excerptStart, excerptFrames}
+use Rattle.cells.specs.Excerpt.{excerptStart, excerptFrames}
 use Rattle.export.specs.declared.Part.{Part}
 use Rattle.export.specs.Place.{placeOf}
 
