@@ -70,14 +70,18 @@ fn every_case() {
 /// A short read is not the end of input: each byte comes alone, or the capture comes in a few pieces.
 #[test]
 fn in_pieces() {
+    let mut checked = 0;
     for (name, capture, text) in &cases() {
-        match name.as_str() {
-            "example" | "small" | "frames-0001" | "8-last-byte-missing" | "10-tail-00-1" => check(name, capture, 1, usize::MAX, text),
-            "frames-0090" | "level-3413" | "noise-3" => check(name, capture, 7, 100, text),
-            "frames-4096" | "longest" | "10-longest-and-2000" => check(name, capture, 4001, usize::MAX, text),
-            _ => {}
-        }
+        let (piece, pauses) = match name.as_str() {
+            "example" | "small" | "frames-0001" | "8-last-byte-missing" | "10-tail-00-1" => (1, usize::MAX),
+            "frames-0090" | "level-3413" | "noise-3" => (7, 100),
+            "frames-4096" | "longest" | "10-longest-and-2000" => (4001, usize::MAX),
+            _ => continue,
+        };
+        check(name, capture, piece, pauses, text);
+        checked += 1;
     }
+    assert_eq!(checked, 11);
 }
 
 /// Document 01's own example.
@@ -85,4 +89,14 @@ fn in_pieces() {
 fn example() {
     let capture = [0x50, 0x36, 0x4B, 0x01, 0x7F, 0xC8, 0x01, 0, 0, 0, 0, 0];
     assert_eq!(bench(&capture, usize::MAX, 0), b"0 400 0 0 0 0 0 00\nframes 1\n");
+}
+
+/// A read that fails is an end of input: a folder, and an input that was closed, read as no bytes.
+#[test]
+fn an_input_that_cannot_be_read_is_no_bytes() {
+    let program = root().join("target/bin/bench");
+    let folder = std::fs::File::open(root()).unwrap();
+    assert_eq!(Command::new(&program).stdin(folder).output().unwrap().stdout, b"refused 8\n");
+    let closed = Command::new("sh").args(["-c", "exec \"$0\" <&-"]).arg(&program).output().unwrap();
+    assert_eq!(closed.stdout, b"refused 8\n");
 }
