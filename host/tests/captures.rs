@@ -209,6 +209,12 @@ fn ends_of_range(prng: &mut Prng, seen: &mut Seen) {
     for channel in [5, 6, 255, 256, 1 << 32, usize::MAX] {
         strongest(&cells(9, prng), channel, seen);
     }
+    // Both out of range: the shape and the channel come before the number of frames.
+    let many = cells(MOST_FRAMES + 1, prng);
+    let no_multiple = [&many[..], &[512]].concat();
+    write(&no_multiple, 2 * LONGEST, seen);
+    strongest(&no_multiple, 3, seen);
+    strongest(&many, 6, seen);
 }
 
 fn main() {

@@ -1,5 +1,5 @@
-//! Uses the archive through the safe wrapper, as a program of the customer's would, and holds the declared structs to the layout that the
-//! archive has.
+//! Uses the archive through the safe wrapper, as a program of the customer's would, and holds the declared structs to the sizes and
+//! places written down here.
 
 use host::{excerpt, read, report, strongest, write, Channel, FrameAnswer, FreshAnswer, Relay, ResetAnswer, Settings, StrongestWindow};
 use std::mem::{align_of, offset_of, size_of};
