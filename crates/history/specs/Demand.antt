@@ -3,10 +3,10 @@
 use Prim.Native.Nat.{ℕ, _+_, _-_, _%_, _≤_, _<_, min}
 use mathlib.Core.Path.{_≡_}
 use mathlib.Core.Logic.{_⊎_, _↔_}
-use mathlib.Core.Bool.{Bool, true, cond}
+use mathlib.Core.Bool.{Bool, true, _&&_, cond}
 use mathlib.Core.List.{List, [], _∷_, _++_}
 use lib.IntN.{ℤ, pos, _+ℤ_, _-ℤ_}
-use lib.Dec.{T, leb}
+use lib.Dec.{T, ltb, leb}
 use lib.ListN.{length, getD}
 use Rattle.phasor.specs.Cordic.{amplitudeOf}
 use Rattle.phasor.specs.Exact.{AtLeast, Below, Within}
@@ -15,7 +15,7 @@ use Rattle.relay.specs.declared.Relay.{Relay}
 use Rattle.relay.specs.declared.FrameAnswer.{FrameAnswer}
 use Rattle.relay.specs.declared.ResetAnswer.{ResetAnswer}
 use Rattle.relay.specs.Bits.{bitOf, enabledIn}
-use Rattle.relay.specs.Settings.{Kind, settingsOf, settingsSound, settled, loss, over}
+use Rattle.relay.specs.Settings.{Kind, settingsOf, settingsSound}
 use Rattle.relay.specs.Sound.{soundOf}
 use Rattle.relay.specs.Relay.{channelAt, refusedFrame, refusedReset, inputRefusal, maskRefusal}
 use Rattle.history.specs.Calls.{Call, frame, reset, framesIn, Implementation, after}
@@ -43,16 +43,18 @@ pub record Margins (kind : Kind) (Surely Possibly : List ℤ → Type 0) (es : L
       → (j : ℕ) × (j + kind .len ≡ frames es) × FullRun es (kind .len) j × InEach j (kind .len) (λ n. Possibly (windowAt es n))
 
 -- A channel's levels, "a drop level for each channel and a pickup level for each current" (3, 4, 5), and its two kinds of run under them; a
--- voltage's over run never meets its level. Read from the settings as handed in, not through the relay's own definitions.
+-- voltage's over run never meets its level. All of it is said here anew, from the settings as handed in, and not through the relay's own definitions.
 module _ (drop pickup : List ℕ) (c : ℕ) where
   abbrev pub levels : Levels
   levels = record { drop = getD drop c 0; pickup = cond (leb 3 c) (getD pickup (c - 3) 0) 0; current = leb 3 c }
 
+  -- "16 (loss)" frames with "m < drop (loss)"
   abbrev pub lossOf : Kind
-  lossOf = loss levels
+  lossOf = record { len = 16; meets = λ w. ltb (amplitudeOf w) (levels .drop) }
 
+  -- "4 (over)" frames with "m ≥ pickup (over)"
   abbrev pub overOf : Kind
-  overOf = over levels
+  overOf = record { len = 4; meets = λ w. levels .current && leb (levels .pickup) (amplitudeOf w) }
 
 module _ (d : Implementation) (drop pickup : List ℕ) where
   -- the relay after a list of calls from the fresh one: "nothing alters the relay between two calls"
@@ -65,7 +67,7 @@ module _ (d : Implementation) (drop pickup : List ℕ) where
     pub sound : soundOf (relayAfter calls) ≡ true
     pub settings : relayAfter calls .settings ≡ settingsOf drop pickup
     -- so a frame "found age 72" exactly where its number is 72 or more; "frame n goes to slot n mod 8"
-    pub age : relayAfter calls .age ≡ min settled (framesIn calls)
+    pub age : relayAfter calls .age ≡ min 72 (framesIn calls)
     pub slot : relayAfter calls .slot ≡ framesIn calls % 8
     pub samples : (c : ℕ) → c < 6 → channelAt (relayAfter calls) c .samples ≡ windowOf (channelHistory c calls) (framesIn calls)
     -- "A loss latch, or a current's over latch, is on exactly when .."; a voltage's over latch never is
