@@ -12,9 +12,9 @@ use Rattle.export.specs.Place.{placeOf}
 abbrev nothing : Part
 nothing = record { start = 0; length = 0 }
 
-pub ragged : (cells : List ℕ) (f n : ℕ) → (length cells % 7 ≡ 0 → ⊥) → nothing ≡ placeOf cells f n
+pub noMultiple : (cells : List ℕ) (f n : ℕ) → (length cells % 7 ≡ 0 → ⊥) → nothing ≡ placeOf cells f n
 unfolding excerptStart excerptFrames
-ragged cells f n h = rw (ne-eqb (length cells % 7) 0 h) refl
+noMultiple cells f n h = rw (ne-eqb (length cells % 7) 0 h) refl
 
 exceeding : (cells : List ℕ) (f n : ℕ) → length cells % 7 ≡ 0 → length cells / 7 < f + n → nothing ≡ placeOf cells f n
 unfolding excerptStart excerptFrames
@@ -33,4 +33,4 @@ inside cells f n h k l =
     let fits : f + n ≤ length cells / 7 = omega arith in
     rw (eq-eqb (length cells % 7) 0 h, le-leb (f + n) (length cells / 7) fits) refl
 
-pub ruleset place-cases = (ragged, beyond, past, inside)
+pub ruleset place-cases = (noMultiple, beyond, past, inside)

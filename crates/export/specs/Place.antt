@@ -1,5 +1,5 @@
--- Where an excerpt stands in the caller's cells. Rests on the excerpt of document 01, "The capture": its part of the cells is
--- `take length (drop start cells)`.
+-- Where an excerpt stands in the caller's cells: the cell that it starts at, and how many cells it has. Rests on the excerpt of document 01,
+-- "The capture".
 use Prim.Native.Nat.{ℕ, _*_}
 use mathlib.Core.List.{List}
 use Rattle.cells.specs.Excerpt.{excerptStart, excerptFrames}
