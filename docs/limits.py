@@ -1,25 +1,84 @@
 #!/usr/bin/env python3
-"""Computes every figure of LIMITS.md from the rules of document 01.
+"""Computes every figure of LIMITS.md from the rules of document 01, and fails where the page says something else.
 
-Standard library only, well under a minute. The amplitude m is document 01's own
-(weights, sixteen CORDIC steps, 39797 / 2^28); samples are whole codes, clipped to
--512..511. Nothing here is a proof: the sweeps are over the phases and amplitudes
-named in each heading. Section numbers are those of LIMITS.md.
+Standard library only, under a minute on one core of its own. `say` prints a sentence made of computed figures and looks it up, word for word,
+in the page's section of the same number; `cite` names what was read by hand in a document. A number of the page that neither has
+met is a fault too. Nothing here is a proof: a sweep covers the phases, slots, signs and steps that its lines name, and no more.
 """
 import itertools
 import math
+import os
 import random
+import re
+import sys
+from decimal import Decimal, getcontext
 
 TAU = 2 * math.pi
-FULL = 16 * 512          # a code of 512 in sixteenths
-TAUS = (0.5, 1, 2, 3, 4, 5)
+FULL = 16 * 512                        # a code of 512 in sixteenths
+OVER, LOSS, SETTLED = 4, 16, 72        # document 01: the runs, the age from which frames count
+SIX = (0.5, 1, 2, 3, 4, 5)             # time constants of documents 000 and 003, in cycles
+TAUS = (0.5, 0.65, 1, 2, 3, 4, 5)      # and the one where the overreach is greatest
+getcontext().prec = 40
 
+
+# ---- the page
+
+def plain(text):
+    return ' '.join(text.replace('**', '').split())
+
+
+with open(os.path.join(os.path.dirname(os.path.abspath(__file__)), 'LIMITS.md'), encoding='utf-8') as page:
+    LEFT = [plain(part) for part in re.split(r'^## ', page.read(), flags=re.M)]   # LEFT[n]: what of section n is still to be met
+FAULTS, NOW = [], 0
+
+
+def head(n):
+    global NOW
+    NOW = n
+    title = '%d.' % n if n else ''
+    print('\nSection %d' % n)
+    if not LEFT[n].startswith(title):
+        FAULTS.append('section %d is not where it was' % n)
+    LEFT[n] = LEFT[n][len(title):]
+
+
+def strike(text):
+    text = plain(text)
+    if text not in LEFT[NOW]:
+        FAULTS.append('section %d does not say: %s' % (NOW, text))
+    LEFT[NOW] = LEFT[NOW].replace(text, ' # ', 1)
+
+
+def say(text):
+    print('  ' + text)
+    strike(text)
+
+
+def row(*cells):
+    say('| ' + ' | '.join(cells) + ' |')
+
+
+def cite(*texts):
+    for text in texts:
+        strike(text)
+
+
+def num(v, digits=0, sign=''):
+    return format(v, sign + ',.%df' % digits).replace('-', '−')
+
+
+def span(vs, digits=0, sign='', word=' to '):
+    return num(min(vs), digits, sign) + word + num(max(vs), digits, sign)
+
+
+# ---- the relay
 
 def amplitude(w):
     """Document 01: m of a window, w[k] being the sample in slot k."""
-    x = abs(16384 * (w[0] - w[4]) + 11585 * (w[1] - w[3] - w[5] + w[7]))
-    y = abs(16384 * (w[2] - w[6]) + 11585 * (w[1] + w[3] - w[5] - w[7]))
-    for i in range(16):
+    s0, s1, s2, s3, s4, s5, s6, s7 = w
+    x = abs(16384 * (s0 - s4) + 11585 * (s1 - s3 - s5 + s7))
+    y = abs(16384 * (s2 - s6) + 11585 * (s1 + s3 - s5 - s7))
+    for i in (0, 1, 2, 3, 4, 5, 6, 7, 8, 9, 10, 11, 12, 13, 14, 15):
         if y >= 0:
             x, y = x + (y >> i), y - (x >> i)
         else:
@@ -28,58 +87,15 @@ def amplitude(w):
 
 
 def exact(w):
-    """Document 01: Z of a window, as a floating-point number."""
+    """Document 01: Z of a window, Z² = P + Q√2, to more than 30 digits."""
     a, b = w[0] - w[4], w[1] - w[3] - w[5] + w[7]
     c, d = w[2] - w[6], w[1] + w[3] - w[5] - w[7]
-    return math.sqrt(16 * (a * a + c * c) + 8 * (b * b + d * d)
-                     + 16 * (a * b + c * d) * math.sqrt(2))
-
-
-def sample(v):
-    """A converter of whole codes: nearest code, clipped at ten bits."""
-    return max(-512, min(511, math.floor(v + 0.5)))
-
-
-def readings(samples, first=0):
-    """m of each frame, from a window of zeros; the first frame goes to slot `first`."""
-    w, out = [0] * 8, []
-    for n, s in enumerate(samples):
-        w[(n + first) % 8] = s
-        out.append(amplitude(w))
-    return out
-
-
-def sine(a, phase, n, f=60.0):
-    return [sample(a * math.cos(TAU * f * k / 480 + phase)) for k in range(n)]
-
-
-def steady(a, phase):
-    """m of a steady 60 Hz sine: every frame of it has this one window."""
-    return amplitude(sine(a, phase, 8))
-
-
-def phases(n):
-    return [TAU * k / n for k in range(n)]
-
-
-def four(ms):
-    """The highest pickup that four successive frames of ms meet."""
-    return max(min(ms[k:k + 4]) for k in range(len(ms) - 3))
-
-
-def latch(ms, met, run):
-    """Frames until `run` successive ms satisfy `met`, the first being 1; None if never."""
-    n = 0
-    for k, m in enumerate(ms):
-        n = n + 1 if met(m) else 0
-        if n == run:
-            return k + 1
-    return None
+    return (16 * (a * a + c * c) + 8 * (b * b + d * d) + 16 * (a * b + c * d) * Decimal(2).sqrt()).sqrt()
 
 
 def channel(calls, pickup, drop):
     """One current channel by document 01. A call is (sample, enabled) or 'reset'.
-    Answers for each frame (m, over latch, loss latch, output bit)."""
+    For each frame: m, over latch, loss latch, output bit, and the whole state that the next call finds."""
     w, age, slot, over, loss, lo, ll, out = [0] * 8, 0, 0, 0, 0, False, False, []
     for c in calls:
         if c == 'reset':
@@ -89,37 +105,79 @@ def channel(calls, pickup, drop):
         s, on = c
         w[slot] = s
         m = amplitude(w)
-        if age < 72:
+        if age < SETTLED:
             age += 1
         elif not on:
             over = loss = 0
         else:
-            loss = min(16, loss + 1) if m < drop else 0
-            over = min(4, over + 1) if m >= pickup else 0
-        ll, lo = ll or loss == 16, lo or over == 4
+            loss = min(LOSS, loss + 1) if m < drop else 0
+            over = min(OVER, over + 1) if m >= pickup else 0
+        ll, lo = ll or loss == LOSS, lo or over == OVER
         slot = (slot + 1) % 8
-        out.append((m, lo, ll, (lo or ll) and on))
+        out.append((m, lo, ll, (lo or ll) and on, (tuple(w), age, slot, over, loss, lo, ll)))
     return out
 
 
-def head(text):
-    print('\n' + text)
+def enabled(samples):
+    return [(s, True) for s in samples]
 
 
-def bandpass(f):
-    """Document 001, equation (1.3)."""
-    s = 1j * TAU * f
-    return abs(125.7 * s / (s * s + 125.7 * s + 138174))
+# ---- samples and readings
+
+def sample(v):
+    """A converter of whole codes: nearest code, halves up, clipped at ten bits. The 1e-9 is for a half that floating point missed."""
+    return max(-512, min(511, math.floor(v + 0.5 + 1e-9)))
 
 
-def lowpass(f, cut, order):
-    """Butterworth modulus, document 000 equation (3.3) with epsilon 1."""
-    return 1 / math.sqrt(1 + (f / cut) ** (2 * order))
+def sine(a, phase, n=8, f=60.0):
+    return [sample(a * math.cos(TAU * f * k / 480 + phase)) for k in range(n)]
 
 
-def filtered(signal, n, sub=40):
-    """Samples at 480 Hz of signal(t) after document 001's filter (1.3), started at rest at t = 0,
-    by the bilinear rule in steps of 1/(480 sub) s."""
+def phases(n):
+    return [TAU * k / n for k in range(n)]
+
+
+def every(a, h=1):
+    """Phases that give every window of a sine of a codes, h-th harmonic: those with a sample halfway between two codes, and one between each two."""
+    half = [s * math.acos((j + 0.5) / a) for j in range(-512, 511) if abs(j + 0.5) <= a for s in (1, -1)]
+    at = sorted({round((p - TAU * h * k / 8) % TAU, 13) for p in half for k in range(8)})
+    return at + [(p + q) / 2 for p, q in zip(at, at[1:] + [at[0] + TAU])]
+
+
+def steady(a, h=1):
+    """The windows of a steady sine in every phase; a phase turned by a slot is a phase too, so every slot is in it."""
+    return [[sample(a * math.cos(TAU * h * k / 8 + p)) for k in range(8)] for p in every(a, h)]
+
+
+def frames(samples, first=0, before=(0,) * 8):
+    """m of each frame; the first goes to slot `first` of the window before."""
+    w = list(before)
+    for n, s in enumerate(samples, first):
+        w[n % 8] = s
+        yield amplitude(w)
+
+
+def readings(*args):
+    return list(frames(*args))
+
+
+def latch(ms, met, run):
+    """Frames until `run` successive ones satisfy `met`, the first being 1; asks for no further m."""
+    r = 0
+    for n, m in enumerate(ms, 1):
+        r = r + 1 if met(m) else 0
+        if r == run:
+            return n
+
+
+def four(ms):
+    """The highest pickup that four successive frames of ms meet."""
+    return max(map(min, ms, ms[1:], ms[2:], ms[3:]))
+
+
+def filtered(signal, n, sub=20):
+    """Samples of signal(t) after document 001's filter (1.3), started at rest at t = 0, by the bilinear rule in steps of 1/(480 sub) s;
+    four times n of them, the first frame 0, 1/4, 1/2 and 3/4 of a frame after t = 0."""
     h = 480.0 * sub * 2
     b = 125.7 * h
     d0, d1, d2 = h * h + b + 138174, 2 * 138174 - 2 * h * h, h * h - b + 138174
@@ -129,232 +187,336 @@ def filtered(signal, n, sub=40):
         x = signal(k / (480.0 * sub))
         y = (b * (x - x2) - d1 * y1 - d2 * y2) / d0
         x2, x1, y2, y1 = x1, x, y1, y
-        if k % sub == 0:
-            out.append(y)
-    return out
+        out.append(y)
+    return [[sample(y) for y in out[d::sub]] for d in range(0, sub, sub // 4)]
 
 
-def self_check():
-    head('0. Bench figures of document 01')
+# ---- the sections
+
+def opening():
+    head(0)
     wave = [100, 71, 0, -71, -100, -71, 0, 71]
-    got = [amplitude([0] * 8), amplitude([100] * 8), amplitude(wave),
-           amplitude([100] + [0] * 7), amplitude([0, 100] + [0] * 6)]
-    print('  0, 0, 1603, 400, 399:', got)
-    assert got == [0, 0, 1603, 400, 399]
-    long = [(wave[n % 8], True) for n in range(200)]
-    over = [k for k, r in enumerate(channel(long, 1603, 1)) if r[1]]
-    never = [k for k, r in enumerate(channel(long, 1604, 1)) if r[1]]
-    loss = [k for k, r in enumerate(channel([(0, True)] * 100, 1, 1)) if r[2]]
-    print('  over latch in frame', over[0], '; pickup 1604 latches in', never, '; loss latch in frame', loss[0])
-    assert (over[0], never, loss[0]) == (75, [], 87)
-    print('  frames 72, 75, 87 in ms after frame 0: %.2f %.2f %.2f' % tuple(n / 0.48 for n in (72, 75, 87)))
-    print('  document 001 levels in sixteenths: 2.0833/5 and 0.5/5 of 8192 = %.1f %.1f' % (FULL * 2.0833 / 5, FULL * 0.1))
+    got = [amplitude([0] * 8), amplitude([100] * 8), amplitude(wave), amplitude([100] + [0] * 7), amplitude([0, 100] + [0] * 6)]
+    over = [k for k, r in enumerate(channel(enabled(wave * 25), 1603, 1)) if r[1]]
+    never = [k for k, r in enumerate(channel(enabled(wave * 25), 1604, 1)) if r[1]]
+    loss = [k for k, r in enumerate(channel(enabled([0] * 100), 1, 1)) if r[2]]
+    print('  bench figures 0, 0, 1603, 400, 399, frames 75, none, 87:', got, over[0], never, loss[0])
+    assert (got, over[0], never, loss[0]) == ([0, 0, 1603, 400, 399], 75, [], 87)
+    say('full scale (512 codes) is %s. A frame is 1/480 s = %s ms, a cycle 8 frames' % (num(FULL), num(1000 / 480, 3)))
+    cite("document 01's", 'Documents 000 to 004', '"(02)"', 'document 02')
+
+
+def bandpass(f):
+    """Document 001, equation (1.3)."""
+    s = 1j * TAU * f
+    return abs(125.7 * s / (s * s + 125.7 * s + 138174))
+
+
+def lowpass(f, cut, order):
+    """Butterworth modulus, 1/√2 at the cut-off."""
+    return 1 / math.sqrt(1 + (f / cut) ** (2 * order))
 
 
 def harmonics():
-    head('1. Harmonics: m of 400 cos(h x) in whole codes, 720 phases, in % of 6400')
-    for h in range(0, 18):
-        ms = [amplitude([sample(400 * math.cos(TAU * h * k / 8 + p)) for k in range(8)]) for p in phases(720)]
-        print('  h %2d: min %6.2f max %6.2f  (m %d to %d)' % (h, min(ms) / 64, max(ms) / 64, min(ms), max(ms)))
-    ms = [amplitude([sample(400 * math.cos(TAU * k / 8 + q) + 40 * math.cos(TAU * 7 * k / 8 + p)) for k in range(8)])
-          for p in phases(48) for q in phases(48)]
-    print('  fundamental 400 with 10 %% of 7th: m %.1f to %.1f %% of 6400' % (min(ms) / 64, max(ms) / 64))
-    print('  filters in front, gain at 60, 420, 540 Hz in %')
-    for name, g in (('001 (1.3) band-pass 50..70 Hz', bandpass),
-                    ('000 5.2 third order 180 Hz', lambda f: lowpass(f, 180, 3)),
-                    ('003 4 second order 540 Hz', lambda f: lowpass(f, 540, 2)),
-                    ('003 4.2 second order 480 Hz', lambda f: lowpass(f, 480, 2))):
-        print('   %-30s %.2f %.2f %.2f' % (name, 100 * g(60), 100 * g(420), 100 * g(540)))
+    head(1)
+    say('Harmonics 7 and 9 read as fundamental')
+    cells = []
+    for group in ((0, 2, 4, 6, 8), (3, 5, 11, 13), (1,), (7, 9, 15, 17)):
+        ms = [amplitude(w) / 64 for h in group for w in steady(400, h)]
+        print('  harmonics %s of 400 codes, every phase: %.3f to %.3f %%' % (group, min(ms), max(ms)))
+        cells.append(num(max(ms)) if group[0] == 0 else 'at most ' + num(max(ms), 3) if group[0] == 3 else span(ms, 1))
+    row('Harmonic', '0, 2, 4, 6, 8', '3, 5, 11, 13', '1', '7, 9, 15, 17 (all 8k ± 1)')
+    row('m, % of its amplitude (400 codes, every phase)', *cells)
+    ms = [amplitude(w) / 64 - 100 for a in (360, 440) for w in steady(a)]
+    say('A 7th of 10 %% makes of 400 codes a sine of 360 to 440: m moves by %s %% (both ends, every phase)' % span(ms, 1, '+'))
+    cite('With N samples "(N/2) − 1 harmonics can be computed" (document 003, 2.1): three here', '(document 000, 2.1.1) ends below the 7th',
+         'Document 001, 1.5, calls 8 samples', '(document 002, 3.3.1, took 12)')
+    row('Gain by closed formula (1/√2 at the cut-off), %', '60 Hz', '420 Hz', '540 Hz')
+    for name, g in (('document 001, equation (1.3): band-pass 50 to 70 Hz', bandpass),
+                    ('document 000, 5.2: Butterworth, order 3, 180 Hz', lambda f: lowpass(f, 180, 3)),
+                    ('document 003, 4: Butterworth, order 2, 540 Hz (for 64 samples and more)', lambda f: lowpass(f, 540, 2))):
+        row(name, *(num(100 * g(f), 1) for f in (60, 420, 540)))
 
 
 def flicker():
-    head('2. No hysteresis; one bad sample')
-    ms = readings(sine(213.3125, 0.3, 480, 59.5))[8:]
-    print('  59.5 Hz sine of exactly pickup 3413: m %d to %d in 1 s, frames at or above pickup %d of %d, longest run %d'
-          % (min(ms), max(ms), sum(m >= 3413 for m in ms), len(ms),
-             max(len(list(g)) for k, g in itertools.groupby(ms, lambda m: m >= 3413) if k)))
-    for s in (511, -512):
-        ms = [amplitude([s if j == k else 0 for j in range(8)]) for k in range(8)]
-        print('  a single sample of %d, zero else, by slot: m %d to %d in eight successive frames' % (s, min(ms), max(ms)))
-    spike = [(0, True)] * 100 + [(511, True)] + [(0, True)] * 30
-    hit = [k - 99 for k, r in enumerate(channel(spike, 2043, 1)) if r[1]]
-    print('  pickup 2043: over latch in frame', hit[0] if hit else None, 'from that sample on (the sample itself is 1)')
-    hit = [k - 99 for k, r in enumerate(channel(spike, 2045, 1)) if r[1]]
-    print('  pickup 2045:', hit)
-    low = next(a for a in range(214) if any(
-        four(readings([s0 if k == 16 + j else v for k, v in enumerate(sine(a, 0.0, 32))])[16:]) >= 3413
-        for j in range(8) for s0 in (511, -512)))
-    print('  pickup 3413: one sample of 511 or -512 in a steady sine trips from %d codes of load up (m %d, %.0f %% of pickup)'
-          % (low, steady(low, 0), 100 * steady(low, 0) / 3413))
-    for gap in (23, 24):
-        calls = [(300 if n % gap == 0 else 0, True) for n in range(480)]
-        print('  dead channel, one sample of 300 every %d frames, drop 819: loss latch %s within 1 s'
-              % (gap, 'on' if channel(calls, 10700, 819)[-1][2] else 'never'))
+    head(2)
+    say('Over needs %d successive frames, loss %d (02); one frame on the other side sets the run to 0' % (OVER, LOSS))
+    cite('document 001, 1.6.2', 'document 004, 3.2.2,')
+    # 59.5/480 = 119/960: in 960 frames the sine meets every multiple of 0.375 degrees and repeats, so phases below 0.375 degrees are all there are
+    lows, highs, counts, runs = set(), set(), set(), set()
+    for j in range(16):
+        s = sine(213.3125, math.radians(0.375 * j / 16), 960 + 8, 59.5)
+        for first in range(8):
+            ms = readings(s, first)[8:]
+            lows.add(min(ms))
+            highs.add(max(ms))
+            counts.add(sum(m >= 3413 for m in ms))
+            runs.add(max(len(list(g)) for k, g in itertools.groupby(ms + ms, lambda m: m >= 3413) if k))
+    assert max(runs) < OVER
+    say('A 59.5 Hz sine of exactly pickup 3,413 reads %s, at or above it in %s of 960 frames, longest run %d'
+        % (span(lows | highs), span(counts), max(runs)))
+    say('it never trips (samples repeat after 960 frames; 16 phases to each 0.375°)')
+
+    # the greatest pickup that one bad code trips, for each slot; a lower one meets the same m
+    top = {}
+    for code in (0, 1023):
+        for slot in range(8):
+            calls = enabled([0] * (80 + slot) + [code - 512] + [0] * 16)
+            top[code, slot] = next(p for p in range(2100, 0, -1) if channel(calls, p, 1)[-1][1])
+    print('  greatest pickup that one bad sample trips, by code and slot:', top)
+    parts = [{top[code, slot] for slot in range(parity, 8, 2)} for code in (0, 1023) for parity in (0, 1)]
+    assert all(len(part) == 1 for part in parts)
+    say('A sample stays in the window for eight frames, twice the over run')
+    say('In a dead channel (all others code 512) one code 0 trips pickups up to %s in an even slot (even frame number), %s in an odd one; one '
+        'code 1023 up to %s and %s' % tuple(num(*part) for part in parts))
+    # only differences count, so a bad code among others at any one code reads as its distance among zeros
+    assert all(amplitude([s if j == k else 0 for j in range(8)]) <= 4 * abs(s) for s in range(-1023, 1024) for k in range(8))
+    assert max(top.values()) == 4 * 512
+    noisy, w = max((amplitude(w), w) for k in range(8) for s in (-512, 511)
+                   for w in itertools.product(*[(s,) if j == k else (-1, 0, 1) for j in range(8)]))
+    quiet = [s if abs(s) < 2 else 0 for s in w]
+    assert [channel(enabled(quiet * 10 + list(w) + quiet * 3), p, 1)[-1][1] for p in (noisy, noisy + 1)] == [True, False]
+    say('From %s on no single sample trips a dead channel; noise of one code in the other seven makes that %s, each code that the channel idles off '
+        '512 adds up to 4' % (num(4 * 512 + 1), num(noisy + 1)))
+    # a steady sine keeps its window, so m is the same in the eight frames that hold the bad sample; below 112 codes Z stays below 3413
+    best = {}
+    for a in range(112 * 16, 114 * 16 + 1):
+        for p in every(a / 16):
+            w = sine(a / 16, p)
+            for k in range(8):
+                for s in (-512, 511):
+                    m = amplitude(w[:k] + [s] + w[k + 1:])
+                    if m > best.get(a, (0,))[0]:
+                        best[a] = m, p, k, s
+    least = min(a for a in best if best[a][0] >= 3413)
+    assert all(best[a][0] >= 3413 for a in best if a >= least)
+    assert all(amplitude(sine(a, 0)[:4] + [-512] + sine(a, 0)[5:]) >= 3413 for a in range(114, 215))
+    for a, trips in ((least, True), (least - 1, False)):
+        m, p, k, s = best[a]
+        w = sine(a / 16, p)
+        calls = enabled((w * 11)[:80 + k] + [s] + (w * 4)[k + 1:])
+        assert channel(calls, 3413, 1)[-1][1] == trips
+    say('pickup 3,413 can trip on one code 0 or 1023 from %s codes of load up (%s %% of pickup; load in sixteenths of a code, every phase)'
+        % (num(least / 16, 4), num(100 * least / 3413)))
+    for gap, on in ((23, False), (24, True)):
+        for s in (300, -300):
+            for first in range(8):
+                r = channel(enabled([s if n % gap == first else 0 for n in range(600)]), 10700, 819)
+                assert r[-1][2] == on
+                assert on or r[300][4] == r[300 + 8 * gap][4]
+    say('In a dead channel with drop 819, one sample of ±300 codes every 23 frames keeps loss off for good (the relay is as it was %d frames before)'
+        % (8 * 23))
 
 
 def offset_wave(a, alpha, tau, d, n):
-    """a (cos(wt + alpha) - cos(alpha) e^(-t/tau)): document 003 (36) without harmonics."""
-    ts = [(k + d) / 8 for k in range(n)]
-    return [sample(a * (math.cos(TAU * t + alpha) - math.cos(alpha) * math.exp(-t / tau))) for t in ts]
+    """a (cos(wt + alpha) - cos(alpha) e^(-t/tau)): document 003 (36) without harmonics, the first frame d frames after the step."""
+    return [sample(a * (math.cos(TAU * t + alpha) - math.cos(alpha) * math.exp(-t / tau))) for t in ((k + d) / 8 for k in range(n))]
+
+
+def overshoot(n, alpha, sign, harmonics=1):
+    """Max of the floating-point full-cycle Fourier above 1 in % for each of the six time constants."""
+    co = [math.cos(TAU * k / n) for k in range(n)]
+    si = [math.sin(TAU * k / n) for k in range(n)]
+    steady_part = [sum(math.cos(h * (TAU * k / n + alpha)) / h for h in range(1, harmonics + 1)) for k in range(n)]
+    tops = []
+    for tau in SIX:
+        s = [0.0] * n + [steady_part[k % n] + sign * math.cos(alpha) * math.exp(-k / n / tau) for k in range(3 * n)]
+        tops.append(200 / n * max(math.hypot(sum(map(float.__mul__, s[k:], co)), sum(map(float.__mul__, s[k:], si)))
+                                  for k in range(1, 3 * n + 1)) - 100)
+    return tops
 
 
 def offset():
-    head('3. Decaying offset: 250 codes steady, from zero, in % of 4000 above (72 angles, 8 instants between frames)')
-    worst = []
+    head(3)
+    tops, helds, lows = [], [], []
     for tau in TAUS:
-        top, full0, held, low = [], [], [], []
-        for j in range(72):
-            for d in range(8):
-                ms = readings(offset_wave(250, TAU * j / 72, tau, d / 8, 56))
-                top.append(max(ms))
-                held.append(four(ms))
-                low.append(min(ms[8:]))
-                if j in (0, 36):
-                    full0.append(max(ms))
-        pc = [100 * v / 4000 - 100 for v in (max(top), max(full0), max(held), min(low))]
-        worst.append(pc)
-        print('  tau %.1f cycles: max %.1f; angle 0 or 180 only %.1f; held four frames %.1f; least after the window is full %.1f'
-              % ((tau,) + tuple(pc)))
-    print('  worst of all: max %.1f, held four frames %.1f, least %.1f'
-          % (max(p[0] for p in worst), max(p[2] for p in worst), min(p[3] for p in worst)))
-    for alpha in (10, 45):
-        for n in (64, 8):
-            print('  floating-point full-cycle Fourier, %2d samples a cycle, angle %d: %s mean %.2f'
-                  % ((n, alpha) + overshoot(n, math.radians(alpha), -1)))
-    print('  document 003 prints means 10.428 (angle 10, table 1) and 8.2091 (angle 45, table 2), 64 samples')
-    for sign in (-1, 1):
-        print('  16 samples, cos %s e: %s mean %.2f' % (('+' if sign > 0 else '-',) + overshoot(16, 0, sign)))
-    print('  document 000 prints 15.2330 15.2146 10.8830 8.1913 6.5302 6.8043 (table 6.2, -), '
-          '16.1162 9.1990 8.4690 6.9313 5.7618 4.9034 (table 6.5, +)')
-    top = max(max(readings([sample(y) for y in filtered(
-        lambda t: 250 * (math.cos(TAU * 60 * t + p) - math.cos(p) * math.exp(-t * 60 / tau)), 64, 20)]))
-        for tau in TAUS for p in phases(12))
-    print('  behind the filter of document 001 (1.3), all tau, 12 angles: max %.1f' % (100 * top / 4000 - 100))
-    for a in (300, 400, 500):
-        low = min(min(readings(offset_wave(a, 0.0, 5, d / 8, 24))[8:]) for d in range(8))
-        print('  fully offset, tau 5 cycles, %d codes steady (clips): least m in frames 8 to 23 %.1f %%' % (a, 100 * low / 16 / a))
-
-
-def overshoot(n, alpha, sign):
-    """Max of the floating-point full-cycle Fourier above 1 in % for each tau, and their mean."""
-    co = [math.cos(TAU * k / n) for k in range(n)]
-    si = [math.sin(TAU * k / n) for k in range(n)]
-    tops = []
-    for tau in TAUS:
-        s = [0.0] * n + [math.cos(TAU * k / n + alpha) + sign * math.cos(alpha) * math.exp(-k / n / tau) for k in range(3 * n)]
-        top = 0
-        for k in range(1, 3 * n + 1):
-            w = s[k:k + n]
-            top = max(top, math.hypot(sum(map(float.__mul__, w, co)), sum(map(float.__mul__, w, si))) * 2 / n)
-        tops.append(100 * top - 100)
-    return ' '.join('%.2f' % t for t in tops), sum(tops) / 6
+        ms = [readings(offset_wave(250, alpha, tau, d / 8, 40), first) for alpha in phases(72) for d in range(8) for first in range(8)]
+        tops.append(max(map(max, ms)) / 40 - 100)
+        helds.append(max(map(four, ms)) / 40 - 100)
+        lows.append(min(min(m[7:]) for m in ms) / 40 - 100)
+    fine = {t / 20: max(max(frames(offset_wave(250, alpha, t / 20, d / 8, 24))) for alpha in phases(72) for d in range(8)) for t in range(4, 21)}
+    print('  tau 0.2 to 1 in steps of 0.05, frames from slot 0: greatest', max(fine.values()) / 40 - 100, 'at', max(fine, key=fine.get))
+    assert fine[0.65] == max(fine.values())
+    say('Decaying offset: overreach up to %s %%' % num(max(tops), 1))
+    say('A = 250 codes, 72 angles, 8 instants between frames, 40 frames; % of A')
+    say('in %d successive frames' % OVER)
+    row('τ, cycles', *map(str, TAUS))
+    row('Maximum of m', *(num(v, 1, '+') for v in tops))
+    row('Held four frames', *(num(v, 1, '+') for v in helds))
+    row('Minimum from frame 8 on, the window full', *(num(v, 1, '+') for v in lows))
+    say('τ = 0.65 is the worst of 0.2 to 1 in steps of 0.05 (frames from slot 0)')
+    cite('Over τ = 0.5, 1, 2, 3, 4, 5 document 003 prints means of 10.428 % (α = 10°, table 1) and 8.2091 % (45°, table 2) at 64 samples')
+    mean = [sum(overshoot(n, math.radians(alpha), -1, h)) / 6 for n, h in ((64, 30), (8, 1)) for alpha in (10, 45)]
+    say('its equation (36) gives us %s and %s, and without harmonics at 8 samples %s and %s' % tuple(num(v, 2) for v in mean))
+    cite('Document 000 (tables 6.2 and 6.5; 16 samples) prints 15.2 and 16.1 % at τ = 0.5')
+    minus, plus = overshoot(16, 0, -1), overshoot(16, 0, 1)
+    assert (num(minus[0], 1), num(plus[0], 1)) == ('15.2', '16.1')
+    say('(not its 6.80 %% at τ = 5 in table 6.2: %s)' % num(minus[5], 2))
+    cite('(document 003, 5)', 'document 01 leaves that out', "document 001's band-pass", 'section 7')
+    top = max(max(readings(s, first)) for tau in TAUS for p in phases(24)
+              for s in filtered(lambda t: 250 * (math.cos(TAU * 60 * t + p) - math.cos(p) * math.exp(-t * 60 / tau)), 64) for first in range(8))
+    say('m stayed at %s %% or below (24 angles, 4 instants)' % num(top / 40 - 100, 1))
 
 
 def frequency():
-    head('4. Off-nominal frequency: 500 codes, 24 phases, 1 s; % of 8000. Closed: |D(f-60)| -/+ |D(f+60)|')
-    kernel = lambda f: abs(math.sin(math.pi * f / 60) / (8 * math.sin(math.pi * f / 480))) if f else 1.0
-    for f in (57, 59, 59.5, 60, 60.5, 61, 63, 56.5, 66):
-        lo, hi, held = 10 ** 9, 0, []
-        for p in phases(24):
-            ms = readings(sine(500, p, 488, f))[8:]
-            lo, hi = min(lo, min(ms)), max(hi, max(ms))
-            held.append(four(ms))
-        print('  %.1f Hz: m %.2f to %.2f; closed %.2f to %.2f; highest pickup met in four successive frames within 1 s %.2f to %.2f'
-              % (f, lo / 80, hi / 80, 100 * (kernel(f - 60) - kernel(f + 60)), 100 * (kernel(f - 60) + kernel(f + 60)),
-                 min(held) / 80, max(held) / 80))
+    head(4)
+    kernel = lambda f: abs(math.sin(math.pi * f / 60) / (8 * math.sin(math.pi * f / 480)))
+    lows, highs, helds, apart = [], [], [], 0
+    hertz = (56.5, 57, 59, 59.5, 60.5, 61, 63, 66)
+    for f in hertz:
+        ms = [readings(s, first)[8:] for s in (sine(500, p, 488, f) for p in phases(24)) for first in range(8)]
+        lows.append(min(map(min, ms)) / 80)
+        highs.append(max(map(max, ms)) / 80)
+        helds.append(min(map(four, ms)) / 80)
+        near, far = 100 * kernel(f - 60), 100 * kernel(f + 60)
+        apart = max(apart, abs(lows[-1] - (near - far)), abs(highs[-1] - (near + far)))
+    say('Sine of 500 codes, 24 phases, 480 frames; %% of amplitude (closed formula agrees within %s)' % num(apart, 2))
+    row('Hz', *map(str, hertz))
+    row('Least m', *(num(v, 2) for v in lows))
+    row('Greatest m', *(num(v, 2) for v in highs))
+    row('Highest pickup tripped in 1 s in all of them', *(num(v, 2) for v in helds))
+    cite('Document 004, 2.6.5,', '56.5 and 66 Hz are from its 5.3.5')
 
 
 def clipping():
-    head('5. Clipping: sine of k x 512 codes, 1440 phases')
-    for k in (1, 1.5, 2, 3, 5, 10, 1000):
-        ms = [steady(512 * k, p) for p in phases(1440)]
-        print('  k %6.1f: true %9d, m %d to %d (%.1f to %.1f %% of true)'
-              % (k, FULL * k, min(ms), max(ms), 100 * min(ms) / FULL / k, 100 * max(ms) / FULL / k))
-    ms = [steady(505 + a / 20, p) for a in range(130) for p in phases(360)]
-    print('  unclipped, peaks 505 to 511.45 codes: greatest m %d; peak 511: m %d to %d; 16 x 511 = %d' % (
-        max(ms), min(steady(511, p) for p in phases(1440)), max(steady(511, p) for p in phases(1440)), 16 * 511))
-    ends = max((amplitude(w), exact(w), w) for w in itertools.product((-512, 511), repeat=8))
-    print('  all 256 windows of -512 and 511: greatest m %d, Z %.2f, at %s' % ends)
-    print('  a fully offset current of steady peak a peaks near 2a (tau long): clips above %.1f codes, m %d' % (255.5, 255.5 * 16))
+    head(5)
+    say('Clipping at ten bits')
+    sizes = (1, 1.5, 2, 3, 5)
+    ms = [list(map(amplitude, steady(512 * k))) for k in sizes]
+    row('Sine, × 512 codes', *map(str, sizes))
+    row('True amplitude', *(num(FULL * k) for k in sizes))
+    row('m, every phase', *(span(m, word='–') for m in ms))
+    top = max(amplitude(w) for a in range(510 * 16, 8184) for w in steady(a / 16))
+    say('A sine that is not clipped (peak below 511.5 codes) read at most %s (peaks from 510 in sixteenths, every phase)' % num(top))
+    bound = 16 * 511.5 + 4 / math.sin(math.pi / 8) + 0.15        # half a code in each sample; m - Z of section 6
+    say('by closed formula it never reads above %s' % num(math.floor(bound)))
+    # with its peak on slot 0 a sine of any size has three samples: the peak, the peak / √2 and 0; the last size is where both are clipped
+    edges = sorted([j + 0.5 for j in range(512)] + [(j + 0.5) * math.sqrt(2) for j in range(512)]) + [10 ** 6]
+    sure = max(amplitude(sine(a, 0)) for e, f in zip(edges, edges[1:]) for a in (e, (e + f) / 2))
+    assert sure == min(ms[2]) == min(ms[3]) == min(ms[4])
+    say('Above %s no sine of any size is sure to meet a pickup: with its peak on a sample in slot 0 none reads more' % num(sure))
+    ends = max((amplitude(w), w) for w in itertools.product((-512, 511), repeat=8))
+    assert (43797732 + 128) // 4096 == ends[0]
+    print('  greatest m of the 256 windows of -512 and 511: %d at %s' % ends)
+    say('%s to 10,700 are accepted settings that nothing meets: bounds inside the proof (`reached`, `ceiling`: 4096 m ≤ 43,797,732 + 128) give '
+        'm ≤ %s, which 511 in slots 0 to 3 and −512 in 4 to 7 reads' % (num(ends[0] + 1), num(ends[0])))
+    assert amplitude([511] * 4 + [-512] * 4) == ends[0]
+    say('Proved: m is never above 10,700')
+    say('A fully offset current peaks near 2 A and can clip above %s codes (m %s)' % (num(511.5 / 2, 2), num(511.5 * 8)))
+    low = [min(min(readings(offset_wave(a, alpha, 5, d / 8, 40), first)[7:])
+               for alpha in (0, math.pi) for d in range(8) for first in range(8)) / a / 0.16 for a in (400, 500)]
+    say('with τ = 5 cycles, from frame 8 on, 400 codes read down to %s %%, 500 codes %s %% (8 instants)' % tuple(num(v, 1) for v in low))
+    cite("document 001's, equation (1.2)")
 
 
-# Found by hill climbing on Z - m; the script only evaluates them.
-HIGH = (489, -512, -67, 508, -464, 506, -47, -501)
-LOW = (346, -512, 509, -233, -166, 511, -511, 108)
+# The greatest Z - m and m - Z known. Found by hill climbing with restarts on s0 - s4, s1 - s5, s2 - s6, s3 - s7 (nothing else counts), and by trying
+# all values of these for which bounds worked out by hand leave room for more; the script only evaluates them.
+HIGH = (-489, 511, 3, -512, 489, -512, -3, 511)
+LOW = (213, -510, 511, -209, -214, 509, -511, 209)
 
 
 def rounding():
-    head('6. Resolution and error')
-    for w in (HIGH, LOW):
-        print('  window %s: m %d, Z %.3f, Z - m %.3f' % (w, amplitude(w), exact(w), exact(w) - amplitude(w)))
+    head(6)
+    high, low = (exact(w) - amplitude(w) for w in (HIGH, LOW))
+    for w, d in ((HIGH, high), (LOW, low)):
+        print('  window %s: m %d, Z - m %.12f' % (w, amplitude(w), d))
+    say('Proved (`accurate`): m is within 2 of Z')
+    say('m ≥ pickup wherever Z ≥ pickup + 2, and only where Z ≥ pickup − 2')
+    weight = 4 * 2046 * (1 / math.sqrt(2) - 11585 / 16384)       # the weight 11585 for 16384/√2, B² + D² being at most 2046²
+    down, up = weight + 128 / 4096, weight + 5597 / 4096
+    assert down + up < 2
+    say('(`near`: 4096 m ≤ n + 128 and n ≤ 4096 m + 5596 for n = ⌊√(Re² + Im²)⌋) and the weight 11585 for 16384/√2 leave Z − m from −%s to +%s'
+        % (num(math.ceil(100 * down) / 100, 2), num(math.ceil(100 * up) / 100, 2)))
+    say('the extremes found by search are %s at %s and %s at %s (slots 0 to 7), so "within 1" would be false'
+        % (num(low, 5), ', '.join(map(num, LOW)), num(high, 5, '+'), ', '.join(map(num, HIGH))))
     rng = random.Random(5)
-    es, turns = [], 0
-    for _ in range(20000):
+    for _ in range(5000):
         w = [rng.randint(-512, 511) for _ in range(8)]
-        m = amplitude(w)
-        es.append(exact(w) - m)
-        turns = max(turns, *(abs(amplitude(w[k:] + w[:k]) - m) for k in range(1, 8)))
-    print('  20,000 random windows: Z - m %.3f to %.3f, mean %.3f; m differs by at most %d when the window is turned'
-          % (min(es), max(es), sum(es) / len(es), turns))
-    print('  one sample of 1, zero else: m %d to %d; windows of -1, 0, 1 (all 6561): greatest m %d' % (
-        min(amplitude([int(j == k) for j in range(8)]) for k in range(8)),
-        max(amplitude([int(j == k) for j in range(8)]) for k in range(8)),
-        max(map(amplitude, itertools.product((-1, 0, 1), repeat=8)))))
-    print('  steady sine in whole codes, 2880 phases: m - 16 a in sixteenths, and % of 16 a')
-    for a in (5, 10, 20, 51.1875, 100, 213.3125, 400, 511):
-        ds = [steady(a, p) - 16 * a for p in phases(2880)]
-        print('   a %8.4f: %+.1f to %+.1f sixteenths (%+.2f to %+.2f %%)' % (a, min(ds), max(ds), 100 * min(ds) / 16 / a, 100 * max(ds) / 16 / a))
-    ds = [steady(a / 7, p) - 16 * a / 7 for a in range(35, 3578, 23) for p in phases(360)]
-    print('  peaks 5 to 511 in 155 steps, 360 phases: %+.1f to %+.1f' % (min(ds), max(ds)))
-    print('  closed bound of rounding each sample by half a code: 2/sin(pi/8) x 2 = %.2f sixteenths' % (4 / math.sin(math.pi / 8)))
+        turned = [amplitude(w[k:] + w[:k]) for k in range(8)]
+        assert max(turned) - min(turned) <= 1 and all(low <= exact(w) - m <= high for m in turned)
+    ds = [amplitude(w) - 16 * a / 7 for a in range(35, 3578, 23) for w in steady(a / 7)]
+    say('for steady sines of 5 to 511 codes (steps of 23/7, every phase) m − 16A was %s' % span(ds, 1, '+'))
+    say("(closed bound for the samples' part: %s)" % num(4 / math.sin(math.pi / 8), 2))
+    pc = {a: [100 * amplitude(w) / 16 / a - 100 for w in steady(a)] for a in (5, 51.1875, 100, 213.3125)}
+    say('%s at 5 codes, %s at 51.2 (819), %s at 100, %s at 213.3 (3,413)' % tuple(span(v, 1, '+') for v in pc.values()))
+    say('So 100, 71, 0, −71 … reads %s (proved), not 1,600' % num(amplitude([100, 71, 0, -71, -100, -71, 0, 71])))
+    cite('Document 001, chapter 2, calls 10 bits "reasonable"')
+    say('may read 1 apart: 100 in slot 0 reads %d, in slot 1 %d (proved); never more, as Z stays and the bounds above are less than 2 apart'
+        % (amplitude([100] + [0] * 7), amplitude([0, 100] + [0] * 6)))
+    ones = {amplitude([s if j == k else 0 for j in range(8)]) for k in range(8) for s in (-1, 1)}
+    most = max(map(amplitude, itertools.product((-1, 0, 1), repeat=8)))
+    say('One code of noise reads %s, windows of −1, 0, 1 (all of them) up to %d: a drop of %d or less may miss a dead channel'
+        % (' or '.join(map(str, sorted(ones))), most, most))
 
 
 def onset():
-    head('7. Time from a step: frames, the first frame with a new sample being 1; ms = worst, the step just after a frame')
-    print('  over: from zero to k x pickup 800 (50 codes), 360 phases; then with offset, 36 angles, 4 instants, all tau')
-    for k in (1.05, 1.1, 1.5, 2, 5):
-        met = lambda m: m >= 800
-        ns = [latch(readings(sine(50 * k, p, 40)), met, 4) for p in phases(360)]
-        os = [latch(readings(offset_wave(50 * k, p, tau, d / 4, 80)), met, 4)
-              for p in phases(36) for tau in TAUS for d in range(4)]
-        print('   k %.2f: %d to %d frames, worst %.1f ms; with offset %d to %d frames, worst %.1f ms' % (
-            k, min(ns), max(ns), max(ns) / 0.48, min(os), max(os), max(os) / 0.48))
-    print('  loss: from 400 codes to zero, drop at q of 6400, 360 phases')
-    for q in (0.05, 0.1, 0.2, 0.5, 0.8, 0.95):
-        ns = [latch(readings(sine(400, p, 16) + [0] * 40)[16:], lambda m: m < 6400 * q, 16) for p in phases(360)]
-        print('   drop %.0f %%: %d to %d frames, worst %.1f ms, %.2f cycles' % (100 * q, min(ns), max(ns), max(ns) / 0.48, max(ns) / 8))
-    print('  the same behind the filter of document 001 (1.3), 24 phases')
-    for k in (1.1, 1.5, 2, 5):
-        ns = []
-        for p in phases(24):
-            ys = filtered(lambda t: 50 * k * math.cos(TAU * 60 * t + p), 80, 20)
-            ns.append(latch(readings([sample(y) for y in ys]), lambda m: m >= 800, 4))
-        print('   over k %.2f: %d to %d frames, worst %.1f ms' % (k, min(ns), max(ns), max(ns) / 0.48))
-    ns = []
-    for p in phases(24):
-        ys = filtered(lambda t: 400 * math.cos(TAU * 60 * t + p) if t < 0.2 else 0.0, 96 + 80, 20)
-        ns.append(latch(readings([sample(y) for y in ys])[96:], lambda m: m < 640, 16))
-    print('   loss drop 10 %%: %d to %d frames, worst %.1f ms, %.2f cycles' % (min(ns), max(ns), max(ns) / 0.48, max(ns) / 8))
+    head(7)
+    cell = lambda ns: '%s (%s)' % (span(ns, word='–'), num(max(ns) / 0.48, 1))
+    tripped = lambda s: {latch(frames(s, first), lambda m: m >= 800, OVER) for first in range(8)}
+    times = (1.05, 1.1, 1.5, 2, 5)
+    rows = [], [], []
+    for k in times:
+        rows[0].append(cell(set.union(*(tripped(sine(50 * k, p) * 4) for p in every(50 * k)))))
+        rows[1].append(cell(set.union(*(tripped(offset_wave(50 * k, p, tau, d / 4, 40)) for p in phases(36) for tau in TAUS for d in range(4)))))
+        rows[2].append(cell(set.union(*(tripped(s) for p in phases(24) for s in filtered(lambda t: 50 * k * math.cos(TAU * 60 * t + p), 80))))
+                       if k > 1.05 else '–')
+    say('Pickup 800 (50 codes)')
+    row('Over: from zero to × pickup', *map(str, times))
+    row('Pure sine, every phase', *rows[0])
+    row('With the offset of section 3, 36 angles, 4 instants', *rows[1])
+    row("Behind document 001's band-pass, 24 phases, 4 instants", *rows[2])
+    # zeros after a steady window: its m in the eight frames that still hold some of it, then 0
+    drops = (10, 20, 50, 80)
+    last = {q: set() for q in drops}
+    for w in steady(400):
+        for first in range(8):
+            ms = readings([0] * 8, first, w)
+            for q in drops:
+                last[q].add(max((n for n, m in enumerate(ms, 1) if m >= 64 * q), default=0) + LOSS)
+    slow = {latch(readings(s, first)[96:], lambda m: m < 640, LOSS) for p in phases(24)
+            for s in filtered(lambda t: 400 * math.cos(TAU * 60 * t + p) if t < 0.2 else 0.0, 96 + 80) for first in range(8)}
+    row('Loss: sine of 400 codes to zero, drop in % of it', *map(str, drops), '10, behind the band-pass')
+    row('Frames (ms)', *(cell(last[q]) for q in drops), cell(slow))
+    say('A trip before frame %d counts windows that still hold old samples' % (8 + OVER - 1))
+    cite('(document 003, 2.3.2)', 'Document 001, chapter 2, measured 0.0694 s, "about 4 cycles"')
+    cite('its over run trips in the fifth frame (A.13), ours in the fourth')
+    over = next(k for k, r in enumerate(channel(enabled(sine(400, 0, 120)), 1, 1)) if r[1])
+    loss = next(k for k, r in enumerate(channel(enabled([0] * 120), 1, 1)) if r[2])
+    say('Frames 0 to %d (%s s) count no run: the earliest over latch is in frame %d (%s ms after frame 0), loss in frame %d (%s ms)'
+        % (SETTLED - 1, num(SETTLED / 480, 2), over, num(over / 0.48), loss, num(loss / 0.48)))
 
 
 def switches():
-    head('8. Switches, resets, lost frames')
+    head(8)
+    cite('document 002, 2.3.3 and 2.3.4', 'section 7', 'No inrush restraint (02)', '(document 004, 6.2.2.3)')
+    say('No inverse-time curve: always %d frames' % OVER)
+    assert all(amplitude([s] * 8) == 0 for s in range(-512, 512))
+    say('any constant code reads 0')
+    say('Drop is at least 1')
     wave = lambda n: sine(300, 0.2, n)
-    live = [(s, True) for s in wave(120)]
-    again = channel(live + ['reset'] + [(s, True) for s in wave(40)], 3413, 1)
-    print('  reset while 300 codes flow: over latch again in frame',
-          [k - 119 for k, r in enumerate(again) if k > 119 and r[1]][0], 'after it')
-    dead = channel([(0, True)] * 120 + ['reset'] + [(0, True)] * 40, 3413, 819)
-    print('  reset on a dead channel: loss latch again in frame', [k - 119 for k, r in enumerate(dead) if k > 119 and r[2]][0])
-    off = channel([(s, n < 100 or n >= 110) for n, s in enumerate(wave(160))], 3413, 1)
-    print('  enable off in frames 100 to 109, latched before: output', [int(off[k][3]) for k in (99, 100, 109, 110)])
-    off = channel([(s, n >= 110) for n, s in enumerate(wave(160))], 3413, 1)
-    print('  enable first on in frame 110, current flowing: over latch in frame', [k for k, r in enumerate(off) if r[1]][0])
-    ms = [m for p in phases(360) for m in readings(
-        sine(400, p, 16) + [sample(400 * math.cos(TAU * k / 8 + p)) for k in range(17, 40)])[8:]]
-    print('  one frame lost or refused in a 400-code sine: m %.1f to %.1f %%' % (min(ms) / 64, max(ms) / 64))
+    back, late = set(), set()
+    for at in range(112, 120):                                   # a reset, and an enable that returns, in front of every slot
+        again = channel(enabled(wave(at)) + ['reset'] + enabled(wave(at + 40)[at:]), 3413, 1)
+        dead = channel(enabled([0] * at) + ['reset'] + enabled([0] * 40), 3413, 819)
+        back.add(tuple(next(k - at + 1 for k, r in enumerate(rs) if k >= at and r[i]) for rs, i in ((again, 1), (dead, 2))))
+        off = channel([(s, not at - 10 <= n < at) for n, s in enumerate(wave(160))], 3413, 1)
+        assert [off[k][3] for k in (at - 11, at - 10, at - 1, at)] == [True, False, False, True]
+        late.add(next(k - at + 1 for k, r in enumerate(channel([(s, n >= at) for n, s in enumerate(wave(160))], 3413, 1)) if r[1]))
+    assert len(back) == len(late) == 1
+    say('Enable bit or bit 6 off: runs become 0 in counted frames and the output bit is 0')
+    say('over latches in the %dth enabled frame, without a new start delay (02 changes this for bit 6)'
+        % late.pop())
+    say('over is back in the %dth frame, loss in the %dth' % back.pop())
+    say('A refused frame (any code above 1023, enable bit 7) is lost to all six channels')
+    # after the loss slot k gets what belonged to slot k + 1
+    ms = [m / 64 for w in steady(400) for first in range(8) for m in readings([w[(first + 1 + j) % 8] for j in range(8)], first, w)]
+    say('One lost frame is a 45° jump: m of a steady sine of 400 codes swings from %s %%, every phase' % span(ms, 1))
 
 
 if __name__ == '__main__':
-    for part in (self_check, harmonics, flicker, offset, frequency, clipping, rounding, onset, switches):
+    for part in (opening, harmonics, flicker, offset, frequency, clipping, rounding, onset, switches):
         part()
+    for n, text in enumerate(LEFT):
+        FAULTS += ['section %d has a number that is not computed here: %s' % (n, part) for part in text.split(' # ') if re.search(r'\d', part)]
+    print('\nThe page says what was computed.' if not FAULTS else '\n'.join(['', 'The page is out of step:'] + FAULTS))
+    sys.exit(bool(FAULTS))

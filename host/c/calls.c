@@ -1,5 +1,5 @@
 /* Uses the archive as a firmware team would: a relay is made, fed and reset, a recording is written, read back, searched and reported. The
- * values are document 01's bench figures. It says `ok`, or what failed. */
+ * values are document 01's bench figures; each refusal occurs, with all that it answers. It says `ok`, or what failed. */
 #include "export.h"
 
 #include <stdio.h>
@@ -18,6 +18,9 @@ _Static_assert(sizeof(p6k_answer) == 16 && offsetof(p6k_answer, count) == 8, "la
 _Static_assert(sizeof(p6k_strongest_window) == 16 && offsetof(p6k_strongest_window, sum) == 4, "layout");
 _Static_assert(offsetof(p6k_strongest_window, frame) == 8, "layout");
 _Static_assert(sizeof(p6k_part) == 16 && offsetof(p6k_part, length) == 8, "layout");
+
+/* 4,096 frames; the mark, two bytes of the count, and for each frame the enable byte and six numbers of two bytes. */
+_Static_assert(P6K_READ_ROOM == 4096 * P6K_FRAME_CELLS && P6K_WRITE_ROOM == 3 + 2 + 4096 * (1 + 6 * 2), "room");
 
 #define CHECK(holds) do { if (!(holds)) { printf("failed: %s, line %d\n", #holds, __LINE__); return 1; } } while (0)
 
@@ -47,7 +50,7 @@ static unsigned first_trip(p6k_settings settings, int c)
     p6k_relay relay = p6k_fresh(settings).relay;
     for (unsigned n = 0; n < 100; n++) {
         p6k_frame_answer answer = p6k_frame(relay, codes_at(n), 0x7F);
-        if (answer.number != 0)
+        if (answer.number != P6K_ACCEPTED)
             return 200;
         relay = answer.relay;
         if (answer.output >> c & 1)
@@ -65,8 +68,8 @@ static int relays(void)
     p6k_fresh_answer refused = p6k_fresh(settings_of(0, 3413));
     p6k_relay zero;
     memset(&zero, 0, sizeof zero);
-    CHECK(refused.number == 1 && memcmp(&refused.relay, &zero, sizeof zero) == 0);
-    CHECK(p6k_frame(zero, codes_at(0), 0x7F).number == 2 && p6k_reset(zero, 0).number == 2);
+    CHECK(refused.number == P6K_BAD_SETTING && memcmp(&refused.relay, &zero, sizeof zero) == 0);
+    CHECK(p6k_frame(zero, codes_at(0), 0x7F).number == P6K_UNSOUND_RELAY && p6k_reset(zero, 0).number == P6K_UNSOUND_RELAY);
 
     p6k_relay relay = p6k_fresh(settings_of(1, 1603)).relay;
     for (unsigned n = 0; n < 90; n++)
@@ -79,49 +82,76 @@ static int relays(void)
     p6k_codes wrong = codes_at(0);
     wrong.codes[5] = 1024;
     answer = p6k_frame(relay, wrong, 0xFF);
-    CHECK(answer.number == 3 && answer.output == 0 && memcmp(&answer.relay, &relay, sizeof relay) == 0);
-    CHECK(p6k_frame(relay, codes_at(90), 0x80).number == 4 && p6k_reset(relay, 0x48).number == 5);
+    CHECK(answer.number == P6K_BAD_CODE && answer.output == 0 && memcmp(&answer.relay, &relay, sizeof relay) == 0);
+    answer = p6k_frame(relay, codes_at(90), 0xFF);
+    CHECK(answer.number == P6K_BAD_ENABLE && answer.output == 0 && memcmp(&answer.relay, &relay, sizeof relay) == 0);
+    for (int c = 0; c < 6; c++)
+        CHECK(answer.amplitudes[c] == 0);
 
-    p6k_reset_answer reset = p6k_reset(relay, 0x08);
-    CHECK(reset.number == 0 && !reset.relay.channels[3].over_latch && reset.relay.channels[3].over_run == 0);
+    p6k_reset_answer reset = p6k_reset(relay, 0x48);
+    CHECK(reset.number == P6K_BAD_MASK && memcmp(&reset.relay, &relay, sizeof relay) == 0);
+    reset = p6k_reset(relay, 0x08);
+    CHECK(reset.number == P6K_ACCEPTED && !reset.relay.channels[3].over_latch && reset.relay.channels[3].over_run == 0);
     CHECK(reset.relay.channels[2].loss_latch && reset.relay.age == 72);
     CHECK(p6k_frame(reset.relay, codes_at(90), 0x7F).output == 0x37);
     return 0;
 }
 
+/* Refused: count 0, and what was lent is as it was. */
+static bool refused(p6k_answer answer, enum p6k_number number, const void *lent, const void *before, size_t size)
+{
+    return answer.number == number && answer.count == 0 && memcmp(lent, before, size) == 0;
+}
+
 static int captures(void)
 {
-    enum { FRAMES = 20 };
-    uint16_t cells[7 * FRAMES], back[7 * FRAMES + 1];
-    uint8_t bytes[300];
+    enum { FRAMES = 20, CELLS = P6K_FRAME_CELLS * FRAMES };
+    uint16_t cells[CELLS], back[CELLS + 1], old[CELLS + 1];
+    uint8_t bytes[300], before[300];
     for (unsigned n = 0; n < FRAMES; n++) {
         p6k_codes codes = codes_at(n);
-        memcpy(cells + 7 * n, codes.codes, sizeof codes.codes);
-        cells[7 * n + 6] = 0x7F;
+        memcpy(cells + P6K_FRAME_CELLS * n, codes.codes, sizeof codes.codes);
+        cells[P6K_FRAME_CELLS * n + 6] = 0x7F;
     }
     memset(bytes, 0xEE, sizeof bytes);
-    p6k_answer written = p6k_write(cells, 7 * FRAMES, bytes, sizeof bytes);
-    CHECK(written.number == 0 && memcmp(bytes, "P6K\x14", 4) == 0 && bytes[written.count] == 0xEE);
-    CHECK(p6k_write(cells, 7 * FRAMES, bytes, written.count - 1).number == 11);
-    CHECK(p6k_write(cells, 7 * FRAMES - 1, bytes, sizeof bytes).number == 12);
+    p6k_answer written = p6k_write(cells, CELLS, bytes, sizeof bytes);
+    CHECK(written.number == P6K_ACCEPTED && memcmp(bytes, "P6K\x14", 4) == 0 && bytes[written.count] == 0xEE);
+    memcpy(before, bytes, sizeof bytes);
+    CHECK(refused(p6k_write(cells, CELLS, bytes, written.count - 1), P6K_DOES_NOT_FIT, bytes, before, sizeof bytes));
+    CHECK(refused(p6k_write(cells, CELLS - 1, bytes, sizeof bytes), P6K_WRONG_SHAPE, bytes, before, sizeof bytes));
+    cells[6] = 0x80;
+    CHECK(refused(p6k_write(cells, CELLS, bytes, sizeof bytes), P6K_OUT_OF_RANGE, bytes, before, sizeof bytes));
+    cells[6] = 0x7F;
 
-    back[7 * FRAMES] = 0xEEEE;
-    p6k_answer read = p6k_read(bytes, written.count, back, 7 * FRAMES + 1);
-    CHECK(read.number == 0 && read.count == FRAMES && memcmp(cells, back, sizeof cells) == 0 && back[7 * FRAMES] == 0xEEEE);
-    CHECK(p6k_read(bytes, written.count - 1, back, 7 * FRAMES).number == 8);
-    CHECK(p6k_read(bytes, written.count + 1, back, 7 * FRAMES).number == 10);
-    CHECK(p6k_read(bytes + 1, 5, back, 7 * FRAMES).number == 6);
+    back[CELLS] = 0xEEEE;
+    p6k_answer read = p6k_read(bytes, written.count, back, CELLS + 1);
+    CHECK(read.number == P6K_ACCEPTED && read.count == FRAMES && memcmp(cells, back, sizeof cells) == 0 && back[CELLS] == 0xEEEE);
+    memcpy(old, back, sizeof back);
+    CHECK(refused(p6k_read(bytes + 1, 5, back, CELLS), P6K_MARK_DIFFERS, back, old, sizeof back));
+    CHECK(refused(p6k_read((const uint8_t *)"P6K\x80\x00", 5, back, CELLS), P6K_BAD_SECOND_BYTE, back, old, sizeof back));
+    CHECK(refused(p6k_read(bytes, written.count - 1, back, CELLS), P6K_ENDS_EARLY, back, old, sizeof back));
+    CHECK(refused(p6k_read((const uint8_t *)"P6K\x81\x20", 5, back, CELLS), P6K_OUT_OF_RANGE, back, old, sizeof back));
+    CHECK(refused(p6k_read(bytes, written.count + 1, back, CELLS), P6K_BYTES_AFTER, back, old, sizeof back));
+    CHECK(refused(p6k_read(bytes, written.count, back, CELLS - 1), P6K_DOES_NOT_FIT, back, old, sizeof back));
 
-    p6k_part part = p6k_excerpt(cells, 7 * FRAMES, 3, 2);
+    p6k_part part = p6k_excerpt(cells, CELLS, 3, 2);
     CHECK(part.start == 21 && part.length == 14);
-    part = p6k_excerpt(cells, 7 * FRAMES, SIZE_MAX, 2);
+    part = p6k_excerpt(cells, CELLS, SIZE_MAX, 2);
+    CHECK(part.start == 0 && part.length == 0);
+    part = p6k_excerpt(cells, CELLS - 1, 3, 2);
     CHECK(part.start == 0 && part.length == 0);
 
-    cells[7 * 11 + 3] = 1023;
-    p6k_strongest_window strongest = p6k_strongest(cells, 7 * FRAMES, 3);
+    cells[P6K_FRAME_CELLS * 11 + 3] = 1023;
+    p6k_strongest_window strongest = p6k_strongest(cells, CELLS, 3);
     /* Eight frames of the wave have the sum 40,164; frame 11 had -71 and now has 511. It first lies in the window from frame 4. */
-    CHECK(strongest.number == 0 && strongest.sum == 40164 - 71 * 71 + 511 * 511 && strongest.frame == 4);
-    CHECK(p6k_strongest(cells, 49, 3).number == 13 && p6k_strongest(cells, 7 * FRAMES, 6).number == 12);
+    CHECK(strongest.number == P6K_ACCEPTED && strongest.sum == 40164 - 71 * 71 + 511 * 511 && strongest.frame == 4);
+    strongest = p6k_strongest(cells, CELLS, 6);
+    CHECK(strongest.number == P6K_WRONG_SHAPE && strongest.sum == 0 && strongest.frame == 0);
+    strongest = p6k_strongest(cells, P6K_FRAME_CELLS * 7, 3);
+    CHECK(strongest.number == P6K_FEW_FRAMES && strongest.sum == 0 && strongest.frame == 0);
+    cells[6] = 0x80;
+    strongest = p6k_strongest(cells, CELLS, 3);
+    CHECK(strongest.number == P6K_OUT_OF_RANGE && strongest.sum == 0 && strongest.frame == 0);
     return 0;
 }
 

@@ -1,15 +1,7 @@
 /* The proved six-channel phasor relay, for C: link target/staticlib/libexport.a, which `rt staticlib export` makes.
  *
  * Every function is total: its contract, proved, says the whole answer for whatever values it is handed, refusals included. An answer's
- * `number` is 0, or the number of the refusal:
- *
- *    1  a setting outside 1 to 10,700             8  the capture ends early
- *    2  the relay is not sound                    9  frame count, code or enable byte out of range
- *    3  a code above 1023                        10  bytes after the last frame
- *    4  enable bit 7 is 1                        11  the answer does not fit
- *    5  reset mask bit 6 or 7 is 1               12  cells no multiple of seven, or channel above 5
- *    6  a mark byte differs                      13  fewer than eight frames
- *    7  second byte is 0 or has its top bit set
+ * `number` is one of p6k_number; where several checks fail, the first in the order that the call names gives it.
  *
  * What the caller owes, since nothing checks it at run time and no promise holds without it:
  *  - a pointer with a length points to at least so many elements, is aligned for its type, and is not NULL, also where the length is 0;
@@ -17,9 +9,10 @@
  *  - a bool is 0 or 1: a relay that was read from elsewhere, byte by byte, has to be looked at first;
  *  - the program is compiled for x86-64 with the System V calling convention, as the archive is.
  * The functions keep nothing between calls, allocate nothing and may be called from several threads at once. They need memcpy and
- * memset of the C library, and p6k_report needs 64 KiB of stack.
+ * memset of the C library.
  *
- * This file is written by hand. c/calls.c checks sizes and places of fields, and the tests check each function's answers. */
+ * This file is written by hand. c/calls.c checks sizes, places of fields and the numbers, c/stack.c the stack, and the tests each function's
+ * answers. */
 #ifndef EXPORT_H
 #define EXPORT_H
 
@@ -30,6 +23,41 @@
 #ifdef __cplusplus
 extern "C" {
 #endif
+
+/* The number of an answer. */
+enum p6k_number {
+    P6K_ACCEPTED = 0,
+    P6K_BAD_SETTING = 1,     /* a setting outside 1 to 10,700 */
+    P6K_UNSOUND_RELAY = 2,   /* relay not sound */
+    P6K_BAD_CODE = 3,        /* a code above 1023 */
+    P6K_BAD_ENABLE = 4,      /* enable bit 7 is 1 */
+    P6K_BAD_MASK = 5,        /* reset mask bit 6 or 7 is 1 */
+    P6K_MARK_DIFFERS = 6,    /* a mark byte differs */
+    P6K_BAD_SECOND_BYTE = 7, /* second byte is 0 or has its top bit set */
+    P6K_ENDS_EARLY = 8,      /* capture ends early */
+    P6K_OUT_OF_RANGE = 9,    /* frame count, code or enable byte out of range */
+    P6K_BYTES_AFTER = 10,    /* bytes after the last frame */
+    P6K_DOES_NOT_FIT = 11,   /* answer does not fit */
+    P6K_WRONG_SHAPE = 12,    /* cells no multiple of seven, or channel above 5 */
+    P6K_FEW_FRAMES = 13      /* fewer than eight frames */
+};
+
+#define P6K_FRAME_CELLS 7      /* the cells of a frame: six codes, then the enable byte */
+#define P6K_READ_ROOM 28672    /* cells that hold every capture, of 4,096 frames at most */
+#define P6K_WRITE_ROOM 53253   /* bytes that hold every capture */
+#define P6K_REPORT_ROOM 184332 /* bytes that hold every report */
+
+/* The stack that a call needs at most, in bytes, with arguments and answer that pass by value. Measured by c/stack.c: calls of every kind on
+ * a painted stack; each is less than its number here, and the gate fails where one is not. A dynamic linker's first look-up of memcpy or
+ * memset and what interrupts the call are not counted. */
+#define P6K_FRESH_STACK 512
+#define P6K_FRAME_STACK 1536
+#define P6K_RESET_STACK 1024
+#define P6K_READ_STACK 256
+#define P6K_WRITE_STACK 256
+#define P6K_EXCERPT_STACK 256
+#define P6K_STRONGEST_STACK 256
+#define P6K_REPORT_STACK 59392
 
 /* Channels 0, 1, 2 are voltages; 3, 4, 5 are currents. A voltage has no over run and no over latch: 0 and false. */
 typedef struct {
@@ -88,38 +116,37 @@ typedef struct {
     size_t frame;
 } p6k_strongest_window;
 
-/* A part of the caller's own cells: cells[start] to cells[start + length - 1]. */
+/* A part of the caller's own cells, counted in cells: cells[start] to cells[start + length - 1]. */
 typedef struct {
     size_t start;
     size_t length;
 } p6k_part;
 
-/* A fresh relay; refused by 1, the all-zero one. */
+/* A fresh relay. Checks 1; refused: the all-zero relay. */
 p6k_fresh_answer p6k_fresh(p6k_settings settings);
 
-/* One frame. enable: bits 0 to 5 enable channels, bit 6 the device. Checks 2, 3, 4; refused, the relay comes back as it was. */
+/* One frame. enable: bits 0 to 5 enable channels, bit 6 the device. Checks 2, 3, 4; refused: the relay as given, amplitudes and output 0. */
 p6k_frame_answer p6k_frame(p6k_relay relay, p6k_codes codes, uint8_t enable);
 
-/* Clears runs and latches of the channels that mask's bits 0 to 5 name. Checks 2, 5; refused, the relay comes back as it was. */
+/* Clears runs and latches of the channels that mask's bits 0 to 5 name. Checks 2, 5; refused: the relay as given. */
 p6k_reset_answer p6k_reset(p6k_relay relay, uint8_t mask);
 
-/* Reads a capture into cells, seven for each frame: six codes, then the enable byte. Refused by 6 to 11, no cell is touched; 28,672 cells are
- * always enough. */
+/* Reads a capture into the front of the cells. Checks 6 to 10 byte by byte, first fault first, then 11; refused: count 0, the cells as lent. */
 p6k_answer p6k_read(const uint8_t *bytes, size_t bytes_length, uint16_t *cells, size_t cells_length);
 
-/* Writes cells as a capture. Checks 12, 9, 11; refused, no byte is touched; 53,253 bytes are always enough. */
+/* Writes cells as a capture into the front of the bytes. Checks 12, 9, 11; refused: count 0, the bytes as lent. */
 p6k_answer p6k_write(const uint16_t *cells, size_t cells_length, uint8_t *bytes, size_t bytes_length);
 
-/* The part of the cells from a frame on, for so many frames; the empty part at the start where that exceeds the frames or the cells are no
- * multiple of seven. */
+/* The part of the cells from a frame on, for so many frames. It has no number: where frame + frames exceeds the frames, or the cells are no
+ * multiple of seven, it is the empty part at the start, start 0 and length 0. */
 p6k_part p6k_excerpt(const uint16_t *cells, size_t cells_length, size_t frame, size_t frames);
 
-/* The largest sum of eight squared samples of successive frames of a channel, and the first frame where it occurs. Checks 12, 9, 13. */
+/* The largest sum of eight squared samples of successive frames of a channel, and the first frame where it occurs. Checks 12, 9, 13;
+ * refused: sum and frame 0. */
 p6k_strongest_window p6k_strongest(const uint16_t *cells, size_t cells_length, size_t channel);
 
-/* The bench program's whole output for a capture, and its length in bytes. A text shorter than P6K_REPORT_ROOM, which holds every output, is
- * left as it was, and the answer is 0. */
-#define P6K_REPORT_ROOM 184332
+/* Puts the bench program's whole output for a capture at the front of the text and answers its length; of a refused capture that is the line
+ * `refused N`. It has no number: where the text is shorter than P6K_REPORT_ROOM, the answer is 0 and the text is as lent. */
 size_t p6k_report(const uint8_t *capture, size_t capture_length, uint8_t *text, size_t text_length);
 
 #ifdef __cplusplus

@@ -4,6 +4,49 @@
 //! fields, `tests/calls.rs` and `tests/captures.rs` hold every answer to a second implementation). Safe Rust meets all that the C header
 //! asks of a caller: slices have true lengths, lent buffers do not overlap, a `bool` is 0 or 1.
 
+/// The numbers of an answer, by the words of document 01's table of refusals.
+pub mod number {
+    pub const ACCEPTED: u8 = 0;
+    /// A setting outside 1 to 10,700.
+    pub const BAD_SETTING: u8 = 1;
+    /// Relay not sound.
+    pub const UNSOUND_RELAY: u8 = 2;
+    /// A code above 1023.
+    pub const BAD_CODE: u8 = 3;
+    /// Enable bit 7 is 1.
+    pub const BAD_ENABLE: u8 = 4;
+    /// Reset mask bit 6 or 7 is 1.
+    pub const BAD_MASK: u8 = 5;
+    /// A mark byte differs.
+    pub const MARK_DIFFERS: u8 = 6;
+    /// Second byte is 0 or has its top bit set.
+    pub const BAD_SECOND_BYTE: u8 = 7;
+    /// Capture ends early.
+    pub const ENDS_EARLY: u8 = 8;
+    /// Frame count, code or enable byte out of range.
+    pub const OUT_OF_RANGE: u8 = 9;
+    /// Bytes after the last frame.
+    pub const BYTES_AFTER: u8 = 10;
+    /// Answer does not fit.
+    pub const DOES_NOT_FIT: u8 = 11;
+    /// Cells no multiple of seven, or channel above 5.
+    pub const WRONG_SHAPE: u8 = 12;
+    /// Fewer than eight frames.
+    pub const FEW_FRAMES: u8 = 13;
+}
+
+/// The cells of a frame: six codes, then the enable byte.
+pub const FRAME_CELLS: usize = 7;
+
+/// Cells that hold every capture, of 4,096 frames at most.
+pub const READ_ROOM: usize = 28_672;
+
+/// Bytes that hold every capture.
+pub const WRITE_ROOM: usize = 53_253;
+
+/// Bytes that hold every report.
+pub const REPORT_ROOM: usize = 184_332;
+
 /// The last eight samples of a channel beside its runs and latches.
 #[repr(C)]
 #[derive(Clone, Copy, Debug, Default, PartialEq, Eq)]
@@ -23,7 +66,7 @@ pub struct Settings {
     pub pickup: [u16; 3],
 }
 
-/// Any value may be handed in: a relay that is not sound is refused with 2 and comes back as it was.
+/// Any value may be handed in: a relay that is not sound is refused and comes back as it was.
 #[repr(C)]
 #[derive(Clone, Copy, Debug, Default, PartialEq, Eq)]
 pub struct Relay {
@@ -33,7 +76,7 @@ pub struct Relay {
     pub settings: Settings,
 }
 
-/// `number` is 0, or the number of the refusal, here and in the other answers.
+/// `number` is one of `number`, here and in the other answers.
 #[repr(C)]
 #[derive(Clone, Copy, Debug, PartialEq, Eq)]
 pub struct FreshAnswer {
@@ -138,9 +181,6 @@ pub fn excerpt(cells: &[u16], frame: usize, frames: usize) -> &[u16] {
 pub fn strongest(cells: &[u16], channel: usize) -> StrongestWindow {
     unsafe { raw::p6k_strongest(cells.as_ptr(), cells.len(), channel) }
 }
-
-/// The room that holds every output of `report`.
-pub const REPORT_ROOM: usize = 184_332;
 
 /// The bench program's whole output for a capture, into the front of the text; the answer is its length in bytes. A text shorter than
 /// `REPORT_ROOM` is left as it was, and the answer is 0.

@@ -4,6 +4,7 @@
 
 mod support;
 
+use host::number;
 use reference::capture::{number_bytes, CELLS, LONGEST, MARK, MOST_FRAMES};
 use reference::prng::Prng;
 use support::{Flags, Numbers};
@@ -14,6 +15,7 @@ const OLD: u8 = 0xEE;
 #[derive(Default)]
 struct Seen {
     numbers: Numbers,
+    into_nothing: Numbers,
     valid: u64,
     cut: u64,
     damaged: u64,
@@ -50,7 +52,7 @@ fn capture(cells: &[u16]) -> Vec<u8> {
     bytes
 }
 
-fn read(bytes: &[u8], room: usize, seen: &mut Seen) -> u8 {
+fn read(bytes: &[u8], room: usize, seen: &mut Seen) -> host::Answer {
     let mut ours = vec![u16::from(OLD); room];
     let mut theirs = ours.clone();
     let answer = host::read(bytes, &mut ours);
@@ -58,7 +60,21 @@ fn read(bytes: &[u8], room: usize, seen: &mut Seen) -> u8 {
     assert_eq!((answer.number, answer.count), (expected.number, expected.count), "{bytes:02X?} into {room} cells");
     assert_eq!(ours, theirs, "{bytes:02X?} into {room} cells");
     seen.numbers.count(answer.number);
-    answer.number
+    answer
+}
+
+/// Into all the room that it can need, and into no cells at all: 6 to 10 come before 11, so the number is the same, and a right capture that has a
+/// frame is 11. Nothing is written before or behind the place of the cells.
+fn read_with_and_without_room(bytes: &[u8], seen: &mut Seen) -> host::Answer {
+    let answer = read(bytes, bytes.len() * CELLS, seen);
+    let number = if answer.count > 0 { number::DOES_NOT_FIT } else { answer.number };
+    let mut around = [u16::from(OLD); 2 * CELLS];
+    let without = host::read(bytes, &mut around[CELLS..CELLS]);
+    assert_eq!(without, host::Answer { number, count: 0 }, "{bytes:02X?} into no cells");
+    assert_eq!(around, [u16::from(OLD); 2 * CELLS], "{bytes:02X?} into no cells");
+    assert_eq!(reference::read(bytes, &mut []).number, number, "{bytes:02X?} into no cells");
+    seen.into_nothing.count(number);
+    answer
 }
 
 fn write(cells: &[u16], room: usize, seen: &mut Seen) -> u8 {
@@ -112,23 +128,23 @@ fn valid(frames: usize, text: &mut [u8], prng: &mut Prng, seen: &mut Seen) -> Ve
     let bytes = capture(&cells);
     seen.valid += 1;
     for room in [cells.len(), cells.len() + prng.below(9) as usize] {
-        assert_eq!(read(&bytes, room, seen), 0);
+        assert_eq!(read(&bytes, room, seen).number, number::ACCEPTED);
     }
-    assert_eq!(write(&cells, bytes.len(), seen), 0);
+    assert_eq!(read_with_and_without_room(&bytes, seen), host::Answer { number: number::ACCEPTED, count: frames });
+    assert_eq!(write(&cells, bytes.len(), seen), number::ACCEPTED);
     write(&cells, bytes.len() + prng.below(9) as usize, seen);
     if frames > 0 {
-        assert_eq!(read(&bytes, cells.len() - 1 - prng.below(7) as usize, seen), 11);
+        assert_eq!(read(&bytes, cells.len() - 1 - prng.below(7) as usize, seen).number, number::DOES_NOT_FIT);
     }
-    assert_eq!(write(&cells, bytes.len() - 1 - prng.below(3) as usize, seen), 11);
+    assert_eq!(write(&cells, bytes.len() - 1 - prng.below(3) as usize, seen), number::DOES_NOT_FIT);
     report(&bytes, text, seen);
     bytes
 }
 
-/// A capture cut at every place, and damaged by one byte at every place.
+/// A capture cut at every place, damaged by one byte at every place, and with a byte behind it.
 fn cut_and_damaged(bytes: &[u8], text: &mut [u8], prng: &mut Prng, seen: &mut Seen) {
     for place in 0..bytes.len() {
-        let room = bytes.len() * CELLS;
-        assert_ne!(read(&bytes[..place], room, seen), 0);
+        assert_ne!(read_with_and_without_room(&bytes[..place], seen).number, number::ACCEPTED);
         seen.cut += 1;
         let mut damaged = bytes.to_vec();
         match prng.below(6) {
@@ -138,7 +154,7 @@ fn cut_and_damaged(bytes: &[u8], text: &mut [u8], prng: &mut Prng, seen: &mut Se
             3 => drop(damaged.remove(place)),
             _ => damaged[place] = prng.below(256) as u8,
         }
-        read(&damaged, room, seen);
+        read_with_and_without_room(&damaged, seen);
         seen.damaged += 1;
         if prng.once_in(50) {
             report(&bytes[..place], text, seen);
@@ -147,7 +163,7 @@ fn cut_and_damaged(bytes: &[u8], text: &mut [u8], prng: &mut Prng, seen: &mut Se
     }
     let mut tailed = bytes.to_vec();
     tailed.push(prng.below(256) as u8);
-    assert_eq!(read(&tailed, 0, seen), 10);
+    assert_eq!(read_with_and_without_room(&tailed, seen).number, number::BYTES_AFTER);
 }
 
 /// Cells that may be of a wrong shape or out of range, to write and to search, and parts of them.
@@ -243,5 +259,7 @@ fn main() {
         seen.valid, seen.cut, seen.damaged, seen.written, seen.excerpts, seen.strongest, seen.reports, flags.seed
     );
     seen.numbers.show(6..=13);
+    println!("  the same captures, valid, cut and damaged, into no cells at all:");
+    seen.into_nothing.show(6..=11);
     assert!(seen.valid + seen.cut + seen.damaged >= 20_000 && seen.excerpts >= 10_000 && seen.reports >= 1_000);
 }

@@ -1,7 +1,9 @@
 //! Uses the archive through the safe wrapper, as a program of the customer's would, and holds the declared structs to the sizes and
 //! places written down here.
 
-use host::{excerpt, read, report, strongest, write, Channel, FrameAnswer, FreshAnswer, Relay, ResetAnswer, Settings, StrongestWindow};
+use host::{excerpt, number, read, report, strongest, write};
+use host::{Channel, FrameAnswer, FreshAnswer, Relay, ResetAnswer, Settings, StrongestWindow};
+use host::{FRAME_CELLS, READ_ROOM, REPORT_ROOM, WRITE_ROOM};
 use std::mem::{align_of, offset_of, size_of};
 
 #[test]
@@ -30,34 +32,47 @@ fn a_fault_is_seen_and_reset() {
     for n in 0..100 {
         let codes = [0, 1, 2, 3, 4, 5].map(|c| if c == 4 { fault[n % 8] } else { 512 + (fault[n % 8] - 512) / 4 });
         let answer = relay.frame(codes.map(|code: i16| code as u16), 0x7F);
-        assert_eq!(answer.number, 0);
+        assert_eq!(answer.number, number::ACCEPTED);
         relay = answer.relay;
         outputs.push(answer.output);
     }
     assert_eq!(outputs.iter().position(|&output| output != 0), Some(75));
     assert_eq!(outputs[99], 0x10);
     let answer = relay.reset(0x10);
-    assert_eq!((answer.number, answer.relay.channels[4].over_latch), (0, false));
-    assert_eq!(answer.relay.reset(0xC0).number, 5);
+    assert_eq!((answer.number, answer.relay.channels[4].over_latch), (number::ACCEPTED, false));
+    assert_eq!(answer.relay.reset(0xC0).number, number::BAD_MASK);
 }
 
 #[test]
 fn a_recording_is_written_read_searched_and_reported() {
     let cells: Vec<u16> = (0..30).flat_map(|n| [512, 512, 512, if n == 20 { 0 } else { 600 }, 512, 512, 0x7F]).collect();
-    let mut bytes = [0; 53_253];
+    let mut bytes = [0; WRITE_ROOM];
     let written = write(&cells, &mut bytes);
-    assert_eq!(written.number, 0);
+    assert_eq!(written.number, number::ACCEPTED);
     let mut back = vec![0; cells.len()];
     let answer = read(&bytes[..written.count], &mut back);
-    assert_eq!((answer.number, answer.count), (0, 30));
+    assert_eq!((answer.number, answer.count), (number::ACCEPTED, 30));
     assert_eq!(back, cells);
-    assert_eq!(strongest(&cells, 3), StrongestWindow { number: 0, sum: 7 * 88 * 88 + 512 * 512, frame: 13 });
+    assert_eq!(strongest(&cells, 3), StrongestWindow { number: number::ACCEPTED, sum: 7 * 88 * 88 + 512 * 512, frame: 13 });
     assert_eq!(excerpt(&cells, 20, 1), [512, 512, 512, 0, 512, 512, 0x7F]);
-    let mut text = vec![0; host::REPORT_ROOM];
+    let mut text = vec![0; REPORT_ROOM];
     let length = report(&bytes[..written.count], &mut text);
     assert!(text[..length].ends_with(b"\nframes 30\n"));
     let length = report(&bytes[..written.count - 1], &mut text);
     assert_eq!(&text[..length], b"refused 8\n");
+}
+
+/// The longest capture takes all the room of both ways, and not a cell or a byte less will do.
+#[test]
+fn room_for_the_longest_capture() {
+    let cells: Vec<u16> = (0..READ_ROOM).map(|i| if i % FRAME_CELLS == 6 { 0x7F } else { 1023 * ((i / FRAME_CELLS + 1) % 2) as u16 }).collect();
+    let mut bytes = [0; WRITE_ROOM];
+    assert_eq!(write(&cells, &mut bytes[..WRITE_ROOM - 1]), host::Answer { number: number::DOES_NOT_FIT, count: 0 });
+    assert_eq!(write(&cells, &mut bytes), host::Answer { number: number::ACCEPTED, count: WRITE_ROOM });
+    let mut back = vec![0; READ_ROOM];
+    assert_eq!(read(&bytes, &mut back[..READ_ROOM - 1]), host::Answer { number: number::DOES_NOT_FIT, count: 0 });
+    assert_eq!(read(&bytes, &mut back), host::Answer { number: number::ACCEPTED, count: READ_ROOM / FRAME_CELLS });
+    assert_eq!(back, cells);
 }
 
 /// No frames, no cells, no bytes: a slice of length 0 is lent as well.
@@ -65,9 +80,9 @@ fn a_recording_is_written_read_searched_and_reported() {
 fn empty_slices() {
     let mut four = [0; 4];
     assert_eq!(write(&[], &mut four).count, 4);
-    assert_eq!(read(&four, &mut []), host::Answer { number: 0, count: 0 });
-    assert_eq!(read(&[], &mut []).number, 8);
-    assert_eq!(write(&[], &mut []).number, 11);
-    assert_eq!(strongest(&[], 0).number, 13);
+    assert_eq!(read(&four, &mut []), host::Answer { number: number::ACCEPTED, count: 0 });
+    assert_eq!(read(&[], &mut []).number, number::ENDS_EARLY);
+    assert_eq!(write(&[], &mut []).number, number::DOES_NOT_FIT);
+    assert_eq!(strongest(&[], 0).number, number::FEW_FRAMES);
     assert!(excerpt(&[], 0, 0).is_empty());
 }

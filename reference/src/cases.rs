@@ -1,7 +1,7 @@
 //! A table of captures, sound and damaged, for comparing bench programs.
 //! Deterministic: whole numbers and fixed seeds only.
 
-use crate::amplitude::{COSINE, SINE};
+use crate::amplitude::{amplitude, COSINE, SINE};
 use crate::capture::{number_bytes, sent, write, CELLS, LONGEST, MARK, MOST_FRAMES};
 use crate::prng::Prng;
 
@@ -238,20 +238,26 @@ fn tripping_all(c: usize) -> impl Fn(usize, usize) -> u16 {
     }
 }
 
+/// A window of which m is exactly `target`: near a wave of the given direction,
+/// in hundredths of cosine and sine. A relay fed with it from frame 0 on has it
+/// in its slots unturned, so from frame 7 on m is `target` in every frame.
+fn window_at(target: i64, (cosine, sine): (i64, i64), prng: &mut Prng) -> [i16; 8] {
+    loop {
+        let window = std::array::from_fn(|slot| {
+            let sum = (COSINE[slot] * cosine + SINE[slot] * sine) * (target / 16) / 100;
+            (((sum + 8192) >> 14) + prng.within(-2, 2)) as i16
+        });
+        if amplitude(&window) == target {
+            return window;
+        }
+    }
+}
+
 /// Steady waves whose amplitudes lie at the bench's levels and next to them.
 fn levels(table: &mut Table) {
     let mut prng = Prng(5);
     for target in [818, 819, 820, 3412, 3413, 3414] {
-        let window = loop {
-            let peak = target / 16;
-            let window: [i16; 8] = std::array::from_fn(|slot| {
-                let sum = COSINE[slot] * peak;
-                (((sum + 8192) >> 14) + prng.within(-2, 2)) as i16
-            });
-            if crate::amplitude::amplitude(&window) == target {
-                break window;
-            }
-        };
+        let window = window_at(target, (100, 0), &mut prng);
         let code = |n: usize, c: usize| {
             if c == 0 || c == 4 {
                 (window[n % 8] + 512) as u16
@@ -260,6 +266,28 @@ fn levels(table: &mut Table) {
             }
         };
         table.add(format!("level-{target:04}"), Frames::new(100, code).capture());
+    }
+    levels_in_every_channel(table);
+}
+
+/// The same levels with each channel at one of its own: in the three captures at
+/// a level every channel has it, the number below and the number above once, and
+/// other channels trip in each. A name has the levels of channels 0, 1 and 2
+/// (drop) or 3, 4 and 5 (pickup); the other three have them turned by one place.
+fn levels_in_every_channel(table: &mut Table) {
+    let directions = [(100, 0), (60, 80), (-80, 60), (0, 100), (-60, -80), (96, -28)];
+    let mut prng = Prng(7);
+    for (name, lowest, named) in [("drop", 818, 0), ("pickup", 3412, 3)] {
+        for turn in 0..3 {
+            let level = |c: usize| {
+                let turned = if c / 3 == named / 3 { 0 } else { 1 };
+                lowest + ((c + turn + turned) % 3) as i64
+            };
+            let windows: [[i16; 8]; 6] = std::array::from_fn(|c| window_at(level(c), directions[c], &mut prng));
+            let code = |n: usize, c: usize| (windows[c][n % 8] + 512) as u16;
+            let name = format!("{name}-{}-{}-{}", level(named), level(named + 1), level(named + 2));
+            table.add(name, Frames::new(96, code).capture());
+        }
     }
 }
 

@@ -1,9 +1,8 @@
-//! Six-channel phasor relay: a second, independent implementation.
+//! Six-channel phasor relay: a second implementation of document 01.
 //!
-//! Written from documents 01 and 90 alone, by hands that have seen nothing of
-//! the Rattle code or its specifications. It is written for reading and not
-//! for speed. Quotations are from document 01; NOTES.md lists the decisions
-//! taken where its words could be read in two ways.
+//! It is written for reading and not for speed. Quotations are from document
+//! 01. NOTES.md says how far it is independent of the proved one, and lists the
+//! decisions taken where document 01's words could be read in two ways.
 
 pub mod amplitude;
 pub mod bench;

@@ -69,3 +69,29 @@ fn latch_cases_do_what_their_names_say() {
     assert_eq!(first("device-off-throughout".into()), None);
     assert_eq!(first("device-off-then-on".into()), Some(103));
 }
+
+#[test]
+fn at_the_levels_every_channel_trips_exactly_where_it_should() {
+    let texts: HashMap<String, String> =
+        cases::all().into_iter().map(|case| (case.name, text_of(&case.capture))).collect();
+    // The six m from frame 7 on; the frame in which latches go on; the output byte then.
+    for (name, amplitudes, trip, byte) in [
+        ("drop-818-819-820", [818, 819, 820, 819, 820, 818], 87, 0x21),
+        ("drop-819-820-818", [819, 820, 818, 820, 818, 819], 87, 0x14),
+        ("drop-820-818-819", [820, 818, 819, 818, 819, 820], 87, 0x0A),
+        ("pickup-3412-3413-3414", [3413, 3414, 3412, 3412, 3413, 3414], 75, 0x30),
+        ("pickup-3413-3414-3412", [3414, 3412, 3413, 3413, 3414, 3412], 75, 0x18),
+        ("pickup-3414-3412-3413", [3412, 3413, 3414, 3414, 3412, 3413], 75, 0x28),
+    ] {
+        let text = &texts[name];
+        let out = outputs(text);
+        assert!(out.len() > trip);
+        for (n, line) in text.lines().take(out.len()).enumerate() {
+            let numbers: Vec<&str> = line.split(' ').collect();
+            if n >= 7 {
+                assert_eq!(numbers[1..7], amplitudes.map(|m: i32| m.to_string()), "{name} {n}");
+            }
+            assert_eq!(out[n], if n < trip { 0 } else { byte }, "{name} {n}");
+        }
+    }
+}

@@ -21,6 +21,12 @@ fn show(path: &[u8]) {
 fn main() {
     show(b"level-3412.p6k");
     show(b"level-3413.p6k");
+    show(b"pickup-3412-3413-3414.p6k");
+    show(b"pickup-3413-3414-3412.p6k");
+    show(b"pickup-3414-3412-3413.p6k");
+    show(b"drop-818-819-820.p6k");
+    show(b"drop-819-820-818.p6k");
+    show(b"drop-820-818-819.p6k");
     show(b"over-3.p6k");
     show(b"loss-late-0.p6k");
     show(b"disabled-and-back-4.p6k");

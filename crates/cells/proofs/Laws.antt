@@ -96,7 +96,8 @@ module _ (cells : List ℕ) (channel : ℕ) where
   unfolding strongestOf
   window-of e = rw e
 
-  is-number : strongestOf cells channel .number ≡ strongestNumber cells channel
+  -- The number answered is that of the first check that fails.
+  pub is-number : strongestOf cells channel .number ≡ strongestNumber cells channel
   is-number = go (eqb (strongestNumber cells channel) accepted) refl
     where
       go : (t : Bool) → eqb (strongestNumber cells channel) accepted ≡ t → strongestOf cells channel .number ≡ strongestNumber cells channel

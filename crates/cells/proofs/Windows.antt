@@ -16,7 +16,7 @@ use Rattle.capture.specs.Refusals.{accepted, wrongShape, outOfRange, fewFrames}
 use Rattle.capture.specs.Frames.{codeLimit, enableLimit, mostFrames, limit, inRange, framesIn}
 use Rattle.capture.proofs.Ranges.{limit-enable, limit-code, range-step, range-bad, range-end, ranges-of, ranges-code}
 use Rattle.cells.specs.declared.StrongestWindow.{StrongestWindow}
-use Rattle.cells.specs.Strongest.{sample, squared, channelCodes, squares, windowSum, window, strongestUpTo, strongestNumber, strongestOf}
+use Rattle.cells.specs.Strongest.{sample, squared, channelCodes, squares, windowSum, window, strongerOf, strongestUpTo, strongestNumber, strongestOf}
 use Rattle.cells.specs.Steps.{ChannelRight}
 
 -- ---- the range
@@ -149,10 +149,10 @@ pub ruleset window-cases = (window-begin, window-inside, window-code, window-aga
 -- ---- the loop over the windows
 
 module _ (before : StrongestWindow) (sum f : ℕ) where
-  pub stronger-new : before .sum < sum → window accepted sum f ≡ cond (ltb (before .sum) sum) (window accepted sum f) before
+  pub stronger-new : before .sum < sum → window accepted sum f ≡ strongerOf before sum f
   stronger-new h = rw (lt-ltb (before .sum) sum h)
 
-  pub stronger-old : sum ≤ before .sum → before ≡ cond (ltb (before .sum) sum) (window accepted sum f) before
+  pub stronger-old : sum ≤ before .sum → before ≡ strongerOf before sum f
   stronger-old h = rw (le-ltb (before .sum) sum h)
 
 pub record StrongestRead (cells : List ℕ) (channel : ℕ) (best : StrongestWindow) (f : ℕ) : Type 0 where
@@ -176,7 +176,7 @@ module _ (cells : List ℕ) (channel : ℕ) where
     strongest-next h = omega arith
 
     pub strongest-again : (sum : ℕ) (next : StrongestWindow) → f < framesIn cells - 8 → sum ≡ windowSum (channelCodes channel (framesIn cells) cells) (f + 1)
-        → next ≡ cond (ltb (best .sum) sum) (window accepted sum (f + 1)) best → StrongestRead cells channel next (f + 1)
+        → next ≡ strongerOf best sum (f + 1) → StrongestRead cells channel next (f + 1)
     unfolding strongestUpTo
     strongest-again sum next h e q = record { low = omega arith; right = I .right; is = q ∙ rw (e, I .is, add-one f) }
 

@@ -33,11 +33,14 @@ windowSum codes f = squares (take 8 (drop f codes))
 abbrev pub window : ℕ → ℕ → ℕ → StrongestWindow
 window number sum frame = record { number = number; sum = sum; frame = frame }
 
+-- The window at frame f in place of the strongest before it, if its sum is larger: of equal ones the first stays.
+abbrev pub strongerOf : StrongestWindow → ℕ → ℕ → StrongestWindow
+strongerOf before sum f = cond (ltb (before .sum) sum) (window accepted sum f) before
+
 -- "the largest sum .., and the first frame where it occurs", of the windows that start at frames 0 to f
 unfoldable pub strongestUpTo : List ℕ → ℕ → StrongestWindow
 strongestUpTo codes zero = window accepted (windowSum codes 0) 0
-strongestUpTo codes (suc f) =
-    cond (ltb (strongestUpTo codes f .sum) (windowSum codes (suc f))) (window accepted (windowSum codes (suc f)) (suc f)) (strongestUpTo codes f)
+strongestUpTo codes (suc f) = strongerOf (strongestUpTo codes f) (windowSum codes (suc f)) (suc f)
 
 -- "Checks: 12, 9, 13."
 abbrev pub strongestChecks : List ℕ → ℕ → List Check
@@ -49,7 +52,8 @@ strongestChecks cells channel =
 abbrev pub strongestNumber : List ℕ → ℕ → ℕ
 strongestNumber cells channel = firstFault (strongestChecks cells channel)
 
--- "over a channel's cells, the largest sum ..": the last window of n frames starts at frame n − 8. Refused, "sum and frame 0".
+-- "over a channel's cells, the largest sum ..": the last window of n frames starts at frame n − 8. Refused, "sum and
+-- frame 0".
 unfoldable pub strongestOf : List ℕ → ℕ → StrongestWindow
 strongestOf cells channel =
     cond (eqb (strongestNumber cells channel) accepted)

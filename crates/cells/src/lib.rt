@@ -1,34 +1,62 @@
 // Parts of frames in memory. The entry points are `excerpt` and `strongest`.
 ghost use mathlib.Core.Path.{_≡_};
-ghost use mathlib.Core.Bool.{not, cond};
+ghost use mathlib.Core.Bool.{not};
 ghost use Prim.Native.Nat.{_+_, _-_, _<_, _≤_};
-ghost use lib.Dec.{ltb};
-ghost use Rattle.capture.specs.Refusals.{accepted};
 ghost use Rattle.capture.specs.Frames.{codeLimit, limit, inRange, framesIn};
-ghost use Rattle.cells.specs.Excerpt.{Excerpt};
-ghost use Rattle.cells.specs.Strongest.{sample, squared, channelCodes, windowSum, window, strongestUpTo, strongestOf};
+ghost use Rattle.cells.specs.Excerpt.{placeOf, Excerpt};
+ghost use Rattle.cells.specs.Strongest.{sample, squared, channelCodes, windowSum, window, strongerOf, strongestUpTo, strongestOf};
 ghost use Rattle.cells.specs.Steps.{ChannelRight};
 
-// The caller's own cells from frame f for n frames; the empty part at the start if f + n exceeds the frames, or the cells are no multiple of seven.
+// A part of the caller's cells, counted in cells: the first of them, and how many there are.
+#[repr(C)]
+pub struct Part {
+    pub start: usize,
+    pub length: usize,
+}
+
+// Where an excerpt stands in the cells. Internal: `excerpt` asks it, and the C interface, where no part of a slice
+// can be returned.
+pub fn place(cells: &[u16], f: usize, n: usize) -> Part
+    ensures { λ r. ⌜ r ≡ placeOf (now (cells .entry)) f n ⌝ }
+{
+    let frames = cells.len() / 7;
+    if cells.len() % 7 != 0 {
+        return Part {
+            start: 0,
+            length: 0,
+        };
+    }
+    if frames < f {
+        return Part {
+            start: 0,
+            length: 0,
+        };
+    }
+    if frames - f < n {
+        return Part {
+            start: 0,
+            length: 0,
+        };
+    }
+    Part {
+        start: 7 * f,
+        length: 7 * n,
+    }
+}
+
+// The caller's own cells from frame f for n frames; the empty part at the start if f + n exceeds the frames, or the
+// cells are no multiple of seven.
 pub fn excerpt(cells: &[u16], f: usize, n: usize) -> &[u16]
     ensures { λ r. ⌜ Excerpt (now (cells .entry)) (cells .entry .ptr) f n (now r) (r .ptr) ⌝ }
 {
-    if cells.len() % 7 != 0 {
-        return &cells[..0];
-    }
-    let frames = cells.len() / 7;
-    if frames < f {
-        return &cells[..0];
-    }
-    if frames - f < n {
-        return &cells[..0];
-    }
-    let start = 7 * f;
-    let end = 7 * (f + n);
+    let part = place(cells, f, n);
+    let start = part.start;
+    let end = start + part.length;
     &cells[start..end]
 }
 
-// The number of a refusal, 0 where the call is accepted; the largest sum, and the first frame of the first window that has it.
+// The number of a refusal, 0 where the call is accepted; the largest sum, and the first frame of the first window
+// that has it.
 #[repr(C)]
 pub struct StrongestWindow {
     pub number: u8,
@@ -101,7 +129,7 @@ fn window_sum(cells: &[u16], channel: usize, f: usize) -> u32
 
 // The window at frame f in place of the strongest before it, if its sum is larger.
 fn stronger(before: StrongestWindow, sum: u32, f: usize) -> StrongestWindow
-    ensures { λ r. ⌜ r ≡ cond (ltb (before .sum) sum) (window accepted sum f) before ⌝ }
+    ensures { λ r. ⌜ r ≡ strongerOf before sum f ⌝ }
 {
     if before.sum < sum {
         return StrongestWindow {
@@ -132,7 +160,8 @@ fn strongest_window(cells: &[u16], channel: usize) -> StrongestWindow
     best
 }
 
-// The largest sum of eight squared samples of successive frames of a channel, and the first frame where it occurs. Checks 12, then 9, then 13.
+// The largest sum of eight squared samples of successive frames of a channel, and the first frame where it occurs.
+// Checks 12, then 9, then 13.
 pub fn strongest(cells: &[u16], channel: usize) -> StrongestWindow
     ensures { λ r. ⌜ r ≡ strongestOf (now (cells .entry)) channel ⌝ }
 {

@@ -1,15 +1,17 @@
-// The relay and its captures for other languages: a thin C interface over the entry points. No function here has a `requires`, and each
-// contract is that of the function it calls. Structs pass by value, the relay too. An array does not pass by value and a part of a slice does
-// not come back: a struct that holds the array, and start and length, stand in for them.
+// The relay and its captures for other languages: a thin C interface over the entry points. No function here has a
+// `requires`, and each is one call, whose contract it has. Structs pass by value, the relay too. An array does not
+// pass by value and a part of a slice does not come back: a struct that holds the array, and start and length, stand
+// in for them.
 ghost use mathlib.Core.Path.{_≡_};
 ghost use Rattle.relay.specs.Relay.{freshOf, frameOf, resetOf};
 ghost use Rattle.capture.specs.Refusals.{Answered};
 ghost use Rattle.reader.specs.Reading.{readOf};
 ghost use Rattle.writer.specs.Writing.{writeOf};
+ghost use Rattle.cells.specs.Excerpt.{placeOf};
 ghost use Rattle.cells.specs.Strongest.{strongestOf};
 ghost use Rattle.report.specs.Report.{Reported};
-ghost use Rattle.export.specs.Place.{placeOf};
 use capture::Answer;
+use cells::Part;
 use cells::StrongestWindow;
 use relay::FrameAnswer;
 use relay::FreshAnswer;
@@ -66,41 +68,12 @@ pub extern "C" fn p6k_write(cells: &[u16], bytes: &mut [u8]) -> Answer
     writer::write(cells, bytes)
 }
 
-// A part of the caller's own cells: the cell that it starts at, and how many cells it has.
-#[repr(C)]
-pub struct Part {
-    pub start: usize,
-    pub length: usize,
-}
-
 // Where the excerpt of so many frames from a frame on stands in the cells.
 #[no_mangle]
 pub extern "C" fn p6k_excerpt(cells: &[u16], frame: usize, frames: usize) -> Part
     ensures { λ r. ⌜ r ≡ placeOf (now (cells .entry)) frame frames ⌝ }
 {
-    let held = cells.len() / 7;
-    if cells.len() % 7 != 0 {
-        return Part {
-            start: 0,
-            length: 0,
-        };
-    }
-    if held < frame {
-        return Part {
-            start: 0,
-            length: 0,
-        };
-    }
-    if held - frame < frames {
-        return Part {
-            start: 0,
-            length: 0,
-        };
-    }
-    Part {
-        start: 7 * frame,
-        length: 7 * frames,
-    }
+    cells::place(cells, frame, frames)
 }
 
 // The strongest window of a channel.

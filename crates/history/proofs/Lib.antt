@@ -1,8 +1,11 @@
+pub mod Accepted
 pub mod Channel
 pub mod Refutations
 pub mod Relay
 pub mod Runs
 pub mod History
+pub mod HistoryCalls
+pub mod Laws
 pub mod Theorem
 pub mod Unique
 pub mod Windows

@@ -8,7 +8,7 @@ use mathlib.Core.Logic.{_↔_, inl}
 use mathlib.Core.Bool.{Bool, true, false, cond}
 use mathlib.Core.List.{List, [], _∷_, _++_, append-nil}
 use lib.IntN.{ℤ, pos, _+ℤ_, _-ℤ_}
-use lib.Dec.{T, leb→le, eqb}
+use lib.Dec.{T, leb, leb→le, eqb}
 use lib.ListN.{getD, set, replicate}
 use borrow.Author.Tests.{le-ltb}
 use Rattle.phasor.specs.Each.{every, table}
@@ -20,6 +20,7 @@ use Rattle.phasor.proofs.Theorems.{accurate, between}
 use Rattle.phasor.proofs.Each.{getD-table}
 use Rattle.relay.specs.declared.Channel.{Channel}
 use Rattle.relay.specs.declared.Relay.{Relay}
+use Rattle.relay.specs.declared.FreshAnswer.{FreshAnswer}
 use Rattle.relay.specs.declared.FrameAnswer.{FrameAnswer}
 use Rattle.relay.specs.declared.ResetAnswer.{ResetAnswer}
 use Rattle.relay.specs.Bits.{bitOf, bitsBelow}
@@ -27,11 +28,14 @@ use Rattle.relay.specs.Settings.{levelsOf, dropsSound, pickupsSound}
 use Rattle.relay.specs.Channel.{noChannel, freshChannel, nextRun, channelAfter}
 use Rattle.relay.specs.Sound.{channelSound, channelsSound, soundOf}
 use Rattle.relay.specs.Relay.{channelAt, freshRelay, zeroRelay, freshRefusal, freshOf, nextChannel, amplitudeIn, outputIn, acceptedFrame}
-use Rattle.relay.specs.Relay.{codesSound, inputRefusal, frameRefusal, frameOf, maskRefusal, resetOf}
-use Rattle.history.specs.Calls.{Codes, Call, frame, reset, framesIn, Implementation, theRelay}
+use Rattle.relay.specs.Relay.{codesSound, inputRefusal, frameRefusal, frameOf, resetOf}
+use Rattle.history.specs.Calls.{Codes, Call, frame, reset, frameRefusedBy, resetRefusedBy, framesIn, Implementation, theRelay}
 use Rattle.history.specs.History.{channelHistory, windowOf, windowAt, LatchOn}
 use Rattle.history.specs.Demand.{lossOf, relayAfter, RelayIs, FrameAnswered, AcceptedSettings, Demanded}
-use Rattle.history.specs.WrongRelays.{EachFrame, EachReset, FixedLatches, Wrong, neverTrips, unaltered, fixedAmplitude, fixedLatches, restartsAge, ignoresEnable, oneTooMany, refusesAll}
+use Rattle.history.specs.WrongRelays.{EachFrame, EachReset, FixedLatches, Wrong, neverTrips, unaltered, fixedAmplitude}
+use Rattle.history.specs.WrongRelays.{fixedLatches, restartsAge, ignoresEnable, oneTooMany, refusesSettings, refusesReset}
+use Rattle.history.proofs.Accepted.{settings-accepted}
+use Rattle.history.proofs.HistoryCalls.{calls}
 use Rattle.history.proofs.Relay.{frames-frame, after-end}
 use Rattle.history.proofs.Theorem.{demand3}
 
@@ -69,22 +73,23 @@ figures = record { at87 = refl; at72 = refl; disabled = refl }
 
 in-range : AcceptedSettings (ones 6) (ones 3)
 unfolding dropsSound pickupsSound every
-in-range = refl
+in-range = settings-accepted (ones 6) (ones 3) refl
 
-taken : inputRefusal (replicate 6 512) 127 ≡ 0
-unfolding inputRefusal codesSound every
+taken : frameRefusedBy (replicate 6 512) 127 ≡ 0
+unfolding frameRefusedBy every
 taken = refl
 
-highest : inputRefusal (replicate 6 1023) 127 ≡ 0
-unfolding inputRefusal codesSound every
+highest : frameRefusedBy (replicate 6 1023) 127 ≡ 0
+unfolding frameRefusedBy every
 highest = refl
 
 module _ (d : Implementation) (meets : Demanded d) where
   relay-is : (calls : List Call) → RelayIs d (ones 6) (ones 3) calls
   relay-is calls = meets (ones 6) (ones 3) in-range calls .relay calls [] (sym (append-nil calls))
 
-  frame-is : (past : List Call) (codes : Codes) (enable : ℕ) → inputRefusal (codes .list) enable ≡ 0
-      → FrameAnswered d (ones 6) (ones 3) past (past ++ (frame codes enable ∷ [])) enable (d .frame (relayAfter d (ones 6) (ones 3) past) (codes .list) enable)
+  frame-is : (past : List Call) (codes : Codes) (enable : ℕ) → frameRefusedBy (codes .list) enable ≡ 0
+      → FrameAnswered d (ones 6) (ones 3) past (past ++ (frame codes enable ∷ []))
+      (d .frame (relayAfter d (ones 6) (ones 3) past) (codes .list) enable)
   frame-is past codes enable e = meets (ones 6) (ones 3) in-range (past ++ (frame codes enable ∷ [])) .answers past (frame codes enable) [] refl .0 e
 
   latch-is : (calls : List Call) → T (latchAfter d calls) ↔ LatchOn (lossOf (ones 6) (ones 3) 0) (channelHistory 0 calls)
@@ -103,6 +108,7 @@ off-too d meets calls off t = subst T off (latch-is theRelay demand3 calls .1 (l
 -- ---- the refutations
 
 never-trips : (d : Implementation) → EachFrame d (λ r codes enable. d .frame r codes enable .output ≡ 0) → ¬ Demanded d
+unfolding frameRefusedBy every
 never-trips d wrong meets =
     subst (λ (output : ℕ). T (bitOf output 0)) (wrong (ones 6) (ones 3) in-range (quiet 87) (still 512) 127 taken) (frame-is d meets (quiet 87) (still 512) 127 taken .output 0 (omega arith) .1 (inl on-at-87, tt))
 
@@ -117,7 +123,7 @@ abbrev first : ℕ → List ℤ
 first code = windowAt (channelHistory 0 (frame (still code) 127 ∷ [])) 0
 
 first-are : (windowSound (first 512) ≡ true) × (windowSound (first 1023) ≡ true) × (amplitudeOf (first 512) ≡ 0) × (amplitudeOf (first 1023) ≡ 2044)
-unfolding every table windowOf windowSound re im sumOver cosines sines amplitudeOf scaledOf lastX startOf steps stepAt inputRefusal codesSound
+unfolding every table windowOf windowSound re im sumOver cosines sines amplitudeOf scaledOf lastX startOf steps stepAt frameRefusedBy
 first-are = (refl, refl, refl, refl)
 
 -- a number within 2 of both exact amplitudes
@@ -133,7 +139,7 @@ fixed-amplitude : (d : Implementation) (m : ℕ)
     → EachFrame d (λ r codes enable. d .frame r codes enable .amplitudes ≡ replicate 6 m) → ¬ Demanded d
 fixed-amplitude d m wrong meets = no-number m (within 512 taken) (within 1023 highest)
   where
-    within : (code : ℕ) → inputRefusal (replicate 6 code) 127 ≡ 0 → Within (first code) m
+    within : (code : ℕ) → frameRefusedBy (replicate 6 code) 127 ≡ 0 → Within (first code) m
     within code e = subst (λ (l : List ℕ). Within (first code) (getD l 0 0)) (wrong (ones 6) (ones 3) in-range [] (still code) 127 e) (frame-is d meets [] (still code) 127 e .within 0 (omega arith))
 
 quiet-frames : (n : ℕ) → framesIn (quiet n) ≡ n
@@ -154,11 +160,11 @@ fixed-latches d wrong meets = off-too d meets (quiet 73) (figures .at72) (subst 
         by (no l) more = ap (λ (k : ℕ). latchAfter d (quiet (suc k))) (let e : suc n ≡ 72 = omega arith in e)
 
 restarts-age : (d : Implementation) → EachReset d (λ r mask. d .reset r mask .relay .age ≡ 0) → ¬ Demanded d
-unfolding maskRefusal inputRefusal codesSound every
+unfolding resetRefusedBy frameRefusedBy every
 restarts-age d wrong meets = omega (arith, relay-is d meets (quiet 1 ++ (reset 0 ∷ [])) .age, wrong (ones 6) (ones 3) in-range (quiet 1) 0 refl)
 
-off : inputRefusal (replicate 6 512) 0 ≡ 0
-unfolding inputRefusal codesSound every
+off : frameRefusedBy (replicate 6 512) 0 ≡ 0
+unfolding frameRefusedBy every
 off = refl
 
 ignores-enable : (d : Implementation) → EachFrame d (λ r codes enable. d .frame r codes enable .relay ≡ d .frame r codes 127 .relay) → ¬ Demanded d
@@ -174,7 +180,7 @@ ignores-enable d wrong meets =
 one-too-many : (d : Implementation)
     → EachFrame d (λ r codes enable. (c : ℕ) → c < 6 → getD (d .frame r codes enable .amplitudes) c 0 ≡ suc (amplitudeIn (r .slot) codes (r .channels) c))
     → ¬ Demanded d
-unfolding amplitudeIn windowOf table inputRefusal codesSound every
+unfolding amplitudeIn windowOf table frameRefusedBy every
 one-too-many d wrong meets =
     let fresh : RelayIs d (ones 6) (ones 3) [] = relay-is d meets [] in
     let same : amplitudeIn (relayAfter d (ones 6) (ones 3) [] .slot) (replicate 6 512) (relayAfter d (ones 6) (ones 3) [] .channels) 0 ≡ amplitudeOf (first 512) =
@@ -189,7 +195,9 @@ refuted d (fixedLatches wrong) = fixed-latches d wrong
 refuted d (restartsAge wrong) = restarts-age d wrong
 refuted d (ignoresEnable wrong) = ignores-enable d wrong
 refuted d (oneTooMany wrong) = one-too-many d wrong
-refuted d (refusesAll wrong) = λ meets. wrong (ones 6) (ones 3) in-range (meets (ones 6) (ones 3) in-range [] .made)
+refuted d (refusesSettings drop pickup ok wrong) = λ meets. wrong (meets drop pickup ok [] .made)
+refuted d (refusesReset drop pickup ok past mask e wrong) =
+    λ meets. wrong (meets drop pickup ok (past ++ (reset mask ∷ [])) .answers past (reset mask) [] refl .0 e)
 
 -- ---- there are such relays: ours, with one thing changed in what accepted calls answer; a refused call answers as it should
 
@@ -197,7 +205,7 @@ abbrev changed : (Relay → List ℕ → ℕ → FrameAnswer → FrameAnswer) �
 changed f =
     record {
       fresh = freshOf;
-      frame = λ r codes enable. cond (eqb (inputRefusal codes enable) 0) (f r codes enable (frameOf r codes enable)) (frameOf r codes enable);
+      frame = λ r codes enable. cond (eqb (frameRefusedBy codes enable) 0) (f r codes enable (frameOf r codes enable)) (frameOf r codes enable);
       reset = resetOf;
     }
 
@@ -238,7 +246,7 @@ restarted =
     record {
       fresh = freshOf;
       frame = frameOf;
-      reset = λ r mask. cond {A = ResetAnswer} (eqb (maskRefusal mask) 0)
+      reset = λ r mask. cond {A = ResetAnswer} (eqb (resetRefusedBy mask) 0)
           (record {
             relay = record { channels = resetOf r mask .relay .channels; age = 0; slot = r .slot; settings = r .settings };
             number = resetOf r mask .number;
@@ -256,8 +264,35 @@ oneMore r codes c = suc (amplitudeIn (r .slot) codes (r .channels) c)
 abbrev increased : Implementation
 increased = changed (λ r codes enable a. record { relay = a .relay; number = a .number; amplitudes = table 6 (oneMore r codes); output = a .output })
 
+taken-32 : resetRefusedBy 32 ≡ 0
+unfolding resetRefusedBy
+taken-32 = refl
+
+-- a fresh relay for no settings, and one for no drop level above 8,192
 abbrev refusing : Implementation
 refusing = record { fresh = λ drop pickup. record { relay = zeroRelay; number = 1 }; frame = frameOf; reset = resetOf }
+
+abbrev narrow : Implementation
+narrow =
+    record {
+      fresh = λ drop pickup. cond {A = FreshAnswer} (every 6 (λ c. leb (getD drop c 0) 8192)) (freshOf drop pickup)
+          (record { relay = zeroRelay; number = 1 });
+      frame = frameOf;
+      reset = resetOf;
+    }
+
+narrow-refuses : ¬ (narrow .fresh (replicate 6 10700) (ones 3) .number ≡ 0)
+unfolding every
+narrow-refuses e = absurd (omega arith)
+
+-- a reset that names channel 5 is refused
+abbrev deaf : Implementation
+deaf =
+    record {
+      fresh = freshOf;
+      frame = frameOf;
+      reset = λ r mask. cond {A = ResetAnswer} (bitOf mask 5) (record { relay = r; number = 5 }) (resetOf r mask);
+    }
 
 either : (b : Bool) (a : FrameAnswer) → cond b a a ≡ a
 either true a = refl
@@ -273,6 +308,8 @@ pub record WrongOnes : Type 0 where
   pub enable-ignored : Wrong enabling
   pub one-more : Wrong increased
   pub all-refused : Wrong refusing
+  pub high-refused : Wrong narrow
+  pub last-refused : Wrong deaf
 
 pub wrong-ones : WrongOnes
 wrong-ones =
@@ -284,7 +321,9 @@ wrong-ones =
       age-restarted = restartsAge (λ drop pickup ok past mask e. rw e);
       enable-ignored = ignoresEnable enabling-so;
       one-more = oneTooMany more-so;
-      all-refused = refusesAll (λ drop pickup ok e. absurd (omega arith));
+      all-refused = refusesSettings (ones 6) (ones 3) in-range (λ e. absurd (omega arith));
+      high-refused = refusesSettings (replicate 6 10700) (ones 3) (calls .highest-drops) narrow-refuses;
+      last-refused = refusesReset (ones 6) (ones 3) in-range [] 32 taken-32 (λ e. absurd (omega arith));
     }
   where
     frozen-so : FixedLatches frozen
@@ -295,7 +334,7 @@ wrong-ones =
     enabling-so : EachFrame enabling (λ r codes enable. enabling .frame r codes enable .relay ≡ enabling .frame r codes 127 .relay)
     enabling-so drop pickup ok past codes enable e =
         let r : Relay = relayAfter enabling drop pickup past in
-        rw e (sym (ap (λ (a : FrameAnswer). a .relay) (either (eqb (inputRefusal (codes .list) 127) 0) (frameOf r (codes .list) 127))))
+        rw e (sym (ap (λ (a : FrameAnswer). a .relay) (either (eqb (frameRefusedBy (codes .list) 127) 0) (frameOf r (codes .list) 127))))
 
     more-so : EachFrame increased (λ r codes enable. (c : ℕ) → c < 6 → getD (increased .frame r codes enable .amplitudes) c 0 ≡ suc (amplitudeIn (r .slot) codes (r .channels) c))
     more-so drop pickup ok past codes enable e c l =

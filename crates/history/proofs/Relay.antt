@@ -14,14 +14,13 @@ use Rattle.relay.specs.Bits.{bitOf}
 use Rattle.relay.specs.Settings.{settingsOf, levelsOf, settled}
 use Rattle.relay.specs.Channel.{clearedOf}
 use Rattle.relay.specs.Sound.{soundOf}
-use Rattle.relay.specs.Relay.{channelAt, freshRelay, ageAfter, slotAfter, nextChannel, acceptedFrame, refusedFrame}
-use Rattle.relay.specs.Relay.{inputRefusal, frameOf, resetChannel, acceptedReset, refusedReset, maskRefusal, resetOf}
-use Rattle.relay.proofs.Laws.{fresh-is, fresh-sound, fresh-channel, frame-accepted, frame-refused}
-use Rattle.relay.proofs.Sound.{input-codes}
-use Rattle.relay.proofs.Laws.{frame-sound, frame-channel, reset-accepted, reset-refused, reset-sound, reset-channel}
-use Rattle.history.specs.Calls.{Codes, Call, frame, reset, refusal, accepted, framesIn, Implementation, theRelay, handedBack, after}
+use Rattle.relay.specs.Relay.{channelAt, freshRelay, ageAfter, slotAfter, nextChannel, acceptedFrame, frameOf, resetChannel, acceptedReset, resetOf}
+use Rattle.relay.proofs.Laws.{fresh-is, fresh-sound, fresh-channel, frame-sound, frame-channel, reset-sound, reset-channel}
+use Rattle.history.specs.Calls.{Codes, Call, frame, reset, frameRefusedBy, resetRefusedBy, refusal, accepted, framesIn}
+use Rattle.history.specs.Calls.{Implementation, theRelay, handedBack, after}
 use Rattle.history.specs.History.{Event, sampled, cleared, inputOf, eventsOf, channelHistory, frames}
 use Rattle.history.specs.Demand.{levels, relayAfter, AcceptedSettings}
+use Rattle.history.proofs.Accepted.{frame-codes, frame-accepted, frame-refused, reset-accepted, reset-refused, settings-sound}
 use Rattle.history.proofs.History.{_▷_, frames-sampled, inputs-cleared}
 use Rattle.history.proofs.Channel.{ChannelIs, channel-fresh, channel-cleared, channel-sampled}
 
@@ -31,17 +30,18 @@ history-end : (c : ℕ) (calls : List Call) (call : Call) → channelHistory c (
 history-end c [] call = append-nil (eventsOf c call)
 history-end c (x ∷ calls) call = ap (λ (l : List Event). eventsOf c x ++ l) (history-end c calls call) ∙ sym (append-assoc (eventsOf c x) (channelHistory c calls) (eventsOf c call))
 
-pub history-frame : (c : ℕ) (calls : List Call) (codes : Codes) (enable : ℕ) → inputRefusal (codes .list) enable ≡ 0
+pub history-frame : (c : ℕ) (calls : List Call) (codes : Codes) (enable : ℕ) → frameRefusedBy (codes .list) enable ≡ 0
     → channelHistory c (calls ++ (frame codes enable ∷ [])) ≡ channelHistory c calls ▷ sampled (inputOf c (codes .list) enable)
 history-frame c calls codes enable e = rw (history-end, e)
 
-history-reset : (c : ℕ) (calls : List Call) (mask : ℕ) → maskRefusal mask ≡ 0
+history-reset : (c : ℕ) (calls : List Call) (mask : ℕ) → resetRefusedBy mask ≡ 0
     → channelHistory c (calls ++ (reset mask ∷ [])) ≡ channelHistory c calls ++ cond (bitOf mask c) (cleared ∷ []) []
 history-reset c calls mask e = rw (history-end, e)
 
 history-refused : (c : ℕ) (calls : List Call) (call : Call) → ¬ (refusal call ≡ 0) → channelHistory c (calls ++ (call ∷ [])) ≡ channelHistory c calls
-history-refused c calls (frame codes enable) e = rw (history-end, ne-eqb (inputRefusal (codes .list) enable) 0 e) (append-nil (channelHistory c calls))
-history-refused c calls (reset mask) e = rw (history-end, ne-eqb (maskRefusal mask) 0 e) (append-nil (channelHistory c calls))
+history-refused c calls (frame codes enable) e =
+    rw (history-end, ne-eqb (frameRefusedBy (codes .list) enable) 0 e) (append-nil (channelHistory c calls))
+history-refused c calls (reset mask) e = rw (history-end, ne-eqb (resetRefusedBy mask) 0 e) (append-nil (channelHistory c calls))
 
 -- each channel's history has as many frames as were accepted
 pub frames-same : (c : ℕ) (calls : List Call) → frames (channelHistory c calls) ≡ framesIn calls
@@ -58,13 +58,13 @@ frames-same c (reset mask ∷ calls) = by (accepted (reset mask) && bitOf mask c
     by true e = e
     by false e = e
 
-pub frames-frame : (calls : List Call) (codes : Codes) (enable : ℕ) → inputRefusal (codes .list) enable ≡ 0
+pub frames-frame : (calls : List Call) (codes : Codes) (enable : ℕ) → frameRefusedBy (codes .list) enable ≡ 0
     → framesIn (calls ++ (frame codes enable ∷ [])) ≡ suc (framesIn calls)
 frames-frame calls codes enable e =
     sym (frames-same 0 (calls ++ (frame codes enable ∷ []))) ∙ ap frames (history-frame 0 calls codes enable e)
     ∙ frames-sampled (channelHistory 0 calls) (inputOf 0 (codes .list) enable) ∙ ap suc (frames-same 0 calls)
 
-frames-reset : (calls : List Call) (mask : ℕ) → maskRefusal mask ≡ 0 → framesIn (calls ++ (reset mask ∷ [])) ≡ framesIn calls
+frames-reset : (calls : List Call) (mask : ℕ) → resetRefusedBy mask ≡ 0 → framesIn (calls ++ (reset mask ∷ [])) ≡ framesIn calls
 frames-reset calls mask e =
     sym (frames-same 0 (calls ++ (reset mask ∷ []))) ∙ ap frames (history-reset 0 calls mask e) ∙ by (bitOf mask 0) ∙ frames-same 0 calls
   where
@@ -103,19 +103,19 @@ module _ (drop pickup : List ℕ) where
   unfolding freshRelay
   fresh-is-so e =
       record {
-        sound = fresh-sound (settingsOf drop pickup) e;
+        sound = fresh-sound (settingsOf drop pickup) (settings-sound drop pickup e);
         settings = refl;
         age = refl;
         slot = refl;
         channel = λ c h. rw (fresh-channel (settingsOf drop pickup) c h) (channel-fresh (levels drop pickup c));
       }
 
-  pub frame-is : (calls : List Call) (r : Relay) (codes : Codes) (enable : ℕ) → inputRefusal (codes .list) enable ≡ 0 → Is calls r
+  pub frame-is : (calls : List Call) (r : Relay) (codes : Codes) (enable : ℕ) → frameRefusedBy (codes .list) enable ≡ 0 → Is calls r
       → Is (calls ++ (frame codes enable ∷ [])) (acceptedFrame r (codes .list) enable .relay)
   unfolding acceptedFrame nextChannel levelsOf
   frame-is calls r codes enable e v =
       record {
-        sound = frame-sound r (codes .list) enable (v .sound) (input-codes (codes .list) enable e);
+        sound = frame-sound r (codes .list) enable (v .sound) (frame-codes (codes .list) enable e);
         settings = v .settings;
         age = rw (frames-frame calls codes enable e) (age-step (r .age) (framesIn calls) (v .age));
         slot = rw (frames-frame calls codes enable e) (slot-step (r .slot) (framesIn calls) (v .slot));
@@ -124,7 +124,8 @@ module _ (drop pickup : List ℕ) where
             (rw (frames-same c calls) (v .age)) (rw (frames-same c calls) (v .slot)) (v .channel c h));
       }
 
-  reset-is : (calls : List Call) (r : Relay) (mask : ℕ) → maskRefusal mask ≡ 0 → Is calls r → Is (calls ++ (reset mask ∷ [])) (acceptedReset r mask .relay)
+  reset-is : (calls : List Call) (r : Relay) (mask : ℕ) → resetRefusedBy mask ≡ 0 → Is calls r
+      → Is (calls ++ (reset mask ∷ [])) (acceptedReset r mask .relay)
   unfolding acceptedReset resetChannel
   reset-is calls r mask e v =
       record {
@@ -151,7 +152,6 @@ module _ (drop pickup : List ℕ) where
       }
 
   call-is : (calls : List Call) (r : Relay) (call : Call) → Dec (refusal call ≡ 0) → Is calls r → Is (calls ++ (call ∷ [])) (handedBack theRelay r call)
-  unfolding refusedFrame refusedReset
   call-is calls r (frame codes enable) d v = by d
     where
       by : Dec (refusal (frame codes enable) ≡ 0) → Is (calls ++ (frame codes enable ∷ [])) (frameOf r (codes .list) enable .relay)
@@ -170,7 +170,7 @@ module _ (drop pickup : List ℕ) where
       rw (← append-assoc past (call ∷ []) calls) (from (past ++ (call ∷ [])) calls (handedBack theRelay r call) (call-is past r call (ℕ-discrete (refusal call) 0) v))
 
   pub relay-is : AcceptedSettings drop pickup → (calls : List Call) → Is calls (relayAfter theRelay drop pickup calls)
-  relay-is e calls = rw (fresh-is drop pickup e) (from [] calls (freshRelay (settingsOf drop pickup)) (fresh-is-so e))
+  relay-is e calls = rw (fresh-is drop pickup (settings-sound drop pickup e)) (from [] calls (freshRelay (settingsOf drop pickup)) (fresh-is-so e))
 
 -- one call more
 pub after-end : (d : Implementation) (r : Relay) (past : List Call) (call : Call) → after d r (past ++ (call ∷ [])) ≡ handedBack d (after d r past) call

@@ -2,7 +2,7 @@
 -- Rests on Relay (what the relay is after a list), Channel (the rule for a latch), Windows, and on what is proved of the amplitude.
 use Prim.Native.Nat.{ℕ, suc, _+_, _≤_, _<_}
 use native.Mathlib.Omega.{arith}
-use mathlib.Core.Path.{_≡_, refl, ap, _∙_}
+use mathlib.Core.Path.{_≡_, refl, sym, ap, _∙_}
 use mathlib.Core.Logic.{_↔_, _⊎_, inl, inr, ⊎-elim}
 use mathlib.Core.Bool.{Bool, true, false, _&&_, _||_}
 use mathlib.Core.List.{List, [], _∷_, _++_}
@@ -21,13 +21,16 @@ use Rattle.relay.specs.declared.ResetAnswer.{ResetAnswer}
 use Rattle.relay.specs.Bits.{bitOf, enabledIn}
 use Rattle.relay.specs.Settings.{Kind}
 use Rattle.relay.specs.Channel.{windowAfter, channelAfter}
-use Rattle.relay.specs.Relay.{channelAt, freshOf, counted, nextChannel, amplitudeIn, outputIn, acceptedFrame, inputRefusal, frameOf, acceptedReset}
+use Rattle.relay.specs.Relay.{channelAt, freshOf, counted, nextChannel, amplitudeIn, outputIn, acceptedFrame, frameOf, acceptedReset}
 use Rattle.relay.proofs.Output.{bits-lt, bit-bits}
-use Rattle.relay.proofs.Laws.{nextOf, fresh-accepted, fresh-is, frame-accepted, frame-refused, frame-channel, reset-accepted, reset-refused}
-use Rattle.history.specs.Calls.{Codes, Call, frame, reset, framesIn, theRelay}
-use Rattle.history.specs.History.{inputOf, channelHistory, frames, windowOf, windowAt, resets, resetsBefore, FullRun, FullRunMeeting, LatchOn}
+use Rattle.relay.proofs.Laws.{nextOf, fresh-accepted, fresh-is, frame-channel}
+use Rattle.history.specs.Calls.{Codes, Call, frame, reset, frameRefusedBy, framesIn, theRelay}
+use Rattle.history.specs.History.{Event, sampled, inputOf, channelHistory, frames, inputAt, windowOf, windowAt, resets, resetsBefore}
+use Rattle.history.specs.History.{Enabled, FullRun, FullRunMeeting, LatchOn}
 use Rattle.history.specs.Demand.{SurelyBelowDrop, PossiblyBelowDrop, SurelyOverPickup, PossiblyOverPickup, Margins, levels}
 use Rattle.history.specs.Demand.{lossOf, overOf, relayAfter, RelayIs, FrameAnswered, Answered, Demand3, AcceptedSettings, Demanded}
+use Rattle.history.proofs.Accepted.{frame-accepted, frame-refused, reset-accepted, reset-refused, settings-sound, settings-accepted}
+use Rattle.history.proofs.History.{_▷_, input-last}
 use Rattle.history.proofs.Channel.{RunIs, ChannelIs, loss-rule, over-rule, went-on, ends-here}
 use Rattle.history.proofs.Relay.{Is, relay-is, frame-is, history-frame, frames-same, frames-frame}
 use Rattle.history.proofs.Windows.{window-sound}
@@ -59,7 +62,7 @@ module _ (drop pickup : List ℕ) (settings : AcceptedSettings drop pickup) wher
       }
 
   -- ---- an accepted frame after the calls `past`
-  module _ (past : List Call) (codes : Codes) (enable : ℕ) (taken : inputRefusal (codes .list) enable ≡ 0) where
+  module _ (past : List Call) (codes : Codes) (enable : ℕ) (taken : frameRefusedBy (codes .list) enable ≡ 0) where
     abbrev calls : List Call
     calls = past ++ (frame codes enable ∷ [])
 
@@ -76,14 +79,23 @@ module _ (drop pickup : List ℕ) (settings : AcceptedSettings drop pickup) wher
     unfolding acceptedFrame amplitudeIn
     amplitude-is c h = getD-table 6 (amplitudeIn (relay past .slot) (codes .list) (relay past .channels)) 0 c h ∙ ap amplitudeOf (window-is c h)
 
+    -- the frame as channel c meets it
+    input-is : (c : ℕ) → inputAt (channelHistory c calls) (framesIn past) ≡ inputOf c (codes .list) enable
+    input-is c =
+        ap (λ (es : List Event). inputAt es (framesIn past)) (history-frame c past codes enable taken)
+        ∙ ap (λ (n : ℕ). inputAt (channelHistory c past ▷ sampled (inputOf c (codes .list) enable)) n) (sym (frames-same c past))
+        ∙ input-last (channelHistory c past) (inputOf c (codes .list) enable)
+
     output-is : (c : ℕ) → c < 6 → T (bitOf (acceptedFrame (relay past) (codes .list) enable .output) c)
-        ↔ ((LatchOn (lossOf drop pickup c) (channelHistory c calls) ⊎ LatchOn (overOf drop pickup c) (channelHistory c calls)) × T (enabledIn enable c))
+        ↔ ((LatchOn (lossOf drop pickup c) (channelHistory c calls) ⊎ LatchOn (overOf drop pickup c) (channelHistory c calls))
+        × Enabled (channelHistory c calls) (framesIn past))
     unfolding acceptedFrame outputIn
     output-is c h =
         let ch : Channel = nextOf (relay past) (codes .list) enable c in
-        rw (bit-bits 6 (outputIn (relay past .settings) (relay past .slot) (counted (relay past)) (codes .list) enable (relay past .channels)) c h)
+        rw (input-is c)
+        (rw (bit-bits 6 (outputIn (relay past .settings) (relay past .slot) (counted (relay past)) (codes .list) enable (relay past .channels)) c h)
         (output-rule (ch .«loss_latch») (ch .«over_latch») (enabledIn enable c) (loss-rule (levels drop pickup c) (channelHistory c calls) ch (next-is c h))
-        (over-rule (levels drop pickup c) (channelHistory c calls) ch (next-is c h)))
+        (over-rule (levels drop pickup c) (channelHistory c calls) ch (next-is c h))))
 
     -- the clauses on Z for one kind of run, whose level is met where Surely holds, and only where Possibly does
     margins : (c : ℕ) → c < 6 → (kind : Kind) → 0 < kind .len → (Surely Possibly : List ℤ → Type 0)
@@ -124,7 +136,7 @@ module _ (drop pickup : List ℕ) (settings : AcceptedSettings drop pickup) wher
         (λ w s t. over-near w s (levels drop pickup c .pickup) (leb→le (levels drop pickup c .pickup) (amplitudeOf w) (and-yes (leb 3 c) _ t .1)))
         _ _ _ (is past .channel c h .overRun) (over-rule (levels drop pickup c) (channelHistory c calls) (channelAt (relay calls) c) (is calls .channel c h))
 
-    frame-answered : FrameAnswered theRelay drop pickup past calls enable (frameOf (relay past) (codes .list) enable)
+    frame-answered : FrameAnswered theRelay drop pickup past calls (frameOf (relay past) (codes .list) enable)
     unfolding acceptedFrame
     frame-answered =
         rw (frame-accepted (relay past) (codes .list) enable (is past .sound) taken)
@@ -151,11 +163,11 @@ module _ (drop pickup : List ℕ) (settings : AcceptedSettings drop pickup) wher
 pub demand3 : Demanded theRelay
 demand3 drop pickup settings calls =
     record {
-      made = ap (λ (a : FreshAnswer). a .number) (fresh-is drop pickup settings);
+      made = ap (λ (a : FreshAnswer). a .number) (fresh-is drop pickup (settings-sound drop pickup settings));
       relay = λ past rest e. relay-clause drop pickup settings past;
       answers = λ past call rest e. answered drop pickup settings past call;
     }
 
 -- the same where making the relay answered 0
 pub demand3-made : (drop pickup : List ℕ) → freshOf drop pickup .number ≡ 0 → (calls : List Call) → Demand3 theRelay drop pickup calls
-demand3-made drop pickup made = demand3 drop pickup (fresh-accepted drop pickup made)
+demand3-made drop pickup made = demand3 drop pickup (settings-accepted drop pickup (fresh-accepted drop pickup made))

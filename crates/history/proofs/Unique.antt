@@ -15,8 +15,8 @@ use borrow.Author.Tests.{eqb-true, eqb-false}
 use Rattle.relay.specs.declared.Relay.{Relay}
 use Rattle.relay.specs.declared.FrameAnswer.{FrameAnswer}
 use Rattle.relay.specs.Bits.{bitOf}
-use Rattle.relay.specs.Relay.{channelAt, inputRefusal, refusedFrame, maskRefusal, refusedReset}
-use Rattle.history.specs.Calls.{Codes, Call, frame, reset, Implementation, theRelay}
+use Rattle.relay.specs.Relay.{channelAt}
+use Rattle.history.specs.Calls.{Codes, Call, frame, reset, frameRefusedBy, resetRefusedBy, Implementation, theRelay}
 use Rattle.history.specs.Demand.{relayAfter, RelayIs, Answered, AcceptedSettings, Demanded}
 use Rattle.history.proofs.Theorem.{demand3}
 
@@ -81,8 +81,7 @@ module _ (d : Implementation) (meets : Demanded d) (drop pickup : List ℕ) (set
 
   pub same-frame : (past : List Call) (codes : Codes) (enable : ℕ)
       → SameAnswer (d .frame (relayAfter d drop pickup past) (codes .list) enable) (theRelay .frame (relayAfter theRelay drop pickup past) (codes .list) enable)
-  unfolding refusedFrame
-  same-frame past codes enable = by (ℕ-discrete (inputRefusal (codes .list) enable) 0)
+  same-frame past codes enable = by (ℕ-discrete (frameRefusedBy (codes .list) enable) 0)
     where
       theirs : Answered d drop pickup past (frame codes enable)
       theirs = meets drop pickup settings (past ++ (frame codes enable ∷ [])) .answers past (frame codes enable) [] refl
@@ -90,7 +89,7 @@ module _ (d : Implementation) (meets : Demanded d) (drop pickup : List ℕ) (set
       ours : Answered theRelay drop pickup past (frame codes enable)
       ours = demand3 drop pickup settings (past ++ (frame codes enable ∷ [])) .answers past (frame codes enable) [] refl
 
-      by : Dec (inputRefusal (codes .list) enable ≡ 0)
+      by : Dec (frameRefusedBy (codes .list) enable ≡ 0)
           → SameAnswer (d .frame (relayAfter d drop pickup past) (codes .list) enable) (theRelay .frame (relayAfter theRelay drop pickup past) (codes .list) enable)
       by (yes e) =
           record {
@@ -103,8 +102,7 @@ module _ (d : Implementation) (meets : Demanded d) (drop pickup : List ℕ) (set
 
   pub same-reset : (past : List Call) (mask : ℕ)
       → d .reset (relayAfter d drop pickup past) mask .number ≡ theRelay .reset (relayAfter theRelay drop pickup past) mask .number
-  unfolding refusedReset
-  same-reset past mask = by (ℕ-discrete (maskRefusal mask) 0)
+  same-reset past mask = by (ℕ-discrete (resetRefusedBy mask) 0)
     where
       theirs : Answered d drop pickup past (reset mask)
       theirs = meets drop pickup settings (past ++ (reset mask ∷ [])) .answers past (reset mask) [] refl
@@ -112,6 +110,7 @@ module _ (d : Implementation) (meets : Demanded d) (drop pickup : List ℕ) (set
       ours : Answered theRelay drop pickup past (reset mask)
       ours = demand3 drop pickup settings (past ++ (reset mask ∷ [])) .answers past (reset mask) [] refl
 
-      by : Dec (maskRefusal mask ≡ 0) → d .reset (relayAfter d drop pickup past) mask .number ≡ theRelay .reset (relayAfter theRelay drop pickup past) mask .number
+      by : Dec (resetRefusedBy mask ≡ 0)
+          → d .reset (relayAfter d drop pickup past) mask .number ≡ theRelay .reset (relayAfter theRelay drop pickup past) mask .number
       by (yes e) = theirs .0 e ∙ sym (ours .0 e)
       by (no e) = rw (theirs .1 e, ours .1 e)

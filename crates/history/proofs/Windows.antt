@@ -11,18 +11,19 @@ use borrow.Author.Tests.{eqb-true}
 use Rattle.phasor.specs.Window.{sampleOf, sampleSound, windowSound}
 use Rattle.phasor.proofs.Each.{every-true, getD-table}
 use Rattle.relay.specs.Bits.{bitOf}
-use Rattle.relay.specs.Relay.{inputRefusal}
-use Rattle.relay.proofs.Sound.{input-codes, code-le}
+use Rattle.relay.proofs.Sound.{code-le}
 use Rattle.phasor.proofs.Samples.{sample-is-sound}
-use Rattle.history.specs.Calls.{Codes, Call, frame, reset, accepted}
+use Rattle.history.specs.Calls.{Codes, Call, frame, reset, frameRefusedBy, accepted}
 use Rattle.history.specs.History.{Event, sampled, cleared, inputOf, channelHistory, inputAt, latestInSlot, windowOf}
+use Rattle.history.proofs.Accepted.{frame-codes}
 
 abbrev SamplesSound : List Event → Type 0
 SamplesSound es = (n : ℕ) → sampleSound (inputAt es n .sample) ≡ true
 
 code-sound : (codes : Codes) (enable c : ℕ) → c < 6 → accepted (frame codes enable) ≡ true → sampleSound (sampleOf (getD (codes .list) c 0)) ≡ true
 code-sound codes enable c h e =
-    sample-is-sound (getD (codes .list) c 0) (code-le (codes .list) (input-codes (codes .list) enable (eqb-true (inputRefusal (codes .list) enable) 0 e)) c h)
+    sample-is-sound (getD (codes .list) c 0)
+    (code-le (codes .list) (frame-codes (codes .list) enable (eqb-true (frameRefusedBy (codes .list) enable) 0 e)) c h)
 
 history-sound : (c : ℕ) → c < 6 → (calls : List Call) → SamplesSound (channelHistory c calls)
 history-sound c h [] = λ n. refl

@@ -1,16 +1,18 @@
 -- Lists of calls on a relay, refused ones among them, each given the relay handed back before it (document 01, demand 3).
--- Rests on the relay's three calls and on what alone refuses a call in such a list: its codes, enable byte or mask.
+-- Which calls are accepted is said here anew, in document 01's words. Rests on the relay's three calls.
 use Prim.Native.Nat.{ℕ, suc}
 use mathlib.Core.Path.{_≡_}
-use mathlib.Core.Bool.{Bool, cond}
+use mathlib.Core.Bool.{Bool, _||_, cond}
 use mathlib.Core.List.{List, [], _∷_}
-use lib.Dec.{eqb}
-use lib.ListN.{length}
+use lib.Dec.{leb, eqb}
+use lib.ListN.{length, getD}
+use Rattle.phasor.specs.Each.{every}
+use Rattle.relay.specs.Bits.{bitOf}
 use Rattle.relay.specs.declared.Relay.{Relay}
 use Rattle.relay.specs.declared.FreshAnswer.{FreshAnswer}
 use Rattle.relay.specs.declared.FrameAnswer.{FrameAnswer}
 use Rattle.relay.specs.declared.ResetAnswer.{ResetAnswer}
-use Rattle.relay.specs.Relay.{freshOf, frameOf, resetOf, inputRefusal, maskRefusal}
+use Rattle.relay.specs.Relay.{freshOf, frameOf, resetOf}
 
 -- "The frame handed in is six codes, one for each channel in order"
 pub record Codes : Type 0 where
@@ -22,10 +24,24 @@ pub data Call : Type 0 where
   frame : Codes → ℕ → Call  -- six codes and an enable byte
   reset : ℕ → Call  -- a mask
 
--- "codes, enable byte or mask alone decide": the number of a call's refusal, 0 for an accepted one
+-- "codes, enable byte or mask alone decide": the number of a call's refusal, 0 for an accepted one. It does not go
+-- through the relay's own checks, so that a relay which refuses other calls than document 01 does not meet the demand.
+
+-- code c is at most 1023
+abbrev pub codeInRange : List ℕ → ℕ → Bool
+codeInRange codes c = leb (getD codes c 0) 1023
+
+-- "a code above 1023" is 3, then "enable bit 7 is 1" is 4
+unfoldable pub frameRefusedBy : List ℕ → ℕ → ℕ
+frameRefusedBy codes enable = cond (every 6 (codeInRange codes)) (cond (bitOf enable 7) 4 0) 3
+
+-- "reset mask bit 6 or 7 is 1" is 5
+unfoldable pub resetRefusedBy : ℕ → ℕ
+resetRefusedBy mask = cond (bitOf mask 6 || bitOf mask 7) 5 0
+
 abbrev pub refusal : Call → ℕ
-refusal (frame codes enable) = inputRefusal (codes .list) enable
-refusal (reset mask) = maskRefusal mask
+refusal (frame codes enable) = frameRefusedBy (codes .list) enable
+refusal (reset mask) = resetRefusedBy mask
 
 abbrev pub accepted : Call → Bool
 accepted call = eqb (refusal call) 0

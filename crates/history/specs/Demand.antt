@@ -7,19 +7,20 @@ use mathlib.Core.Bool.{Bool, true, _&&_, cond}
 use mathlib.Core.List.{List, [], _∷_, _++_}
 use lib.IntN.{ℤ, pos, _+ℤ_, _-ℤ_}
 use lib.Dec.{T, ltb, leb}
-use lib.ListN.{length, getD}
+use lib.ListN.{length, getD, replicate}
 use Rattle.phasor.specs.Cordic.{amplitudeOf}
 use Rattle.phasor.specs.Exact.{AtLeast, Below, Within}
 use Rattle.relay.specs.declared.Levels.{Levels}
 use Rattle.relay.specs.declared.Relay.{Relay}
 use Rattle.relay.specs.declared.FrameAnswer.{FrameAnswer}
 use Rattle.relay.specs.declared.ResetAnswer.{ResetAnswer}
-use Rattle.relay.specs.Bits.{bitOf, enabledIn}
-use Rattle.relay.specs.Settings.{Kind, settingsOf, settingsSound}
+use Rattle.relay.specs.Bits.{bitOf}
+use Rattle.relay.specs.Settings.{Kind}
 use Rattle.relay.specs.Sound.{soundOf}
-use Rattle.relay.specs.Relay.{channelAt, refusedFrame, refusedReset, inputRefusal, maskRefusal}
-use Rattle.history.specs.Calls.{Call, frame, reset, framesIn, Implementation, after}
-use Rattle.history.specs.History.{Event, channelHistory, frames, windowOf, windowAt, InEach, FullRun, LatchOn}
+use Rattle.relay.specs.Relay.{channelAt}
+use Rattle.history.specs.Calls.{Call, frame, reset, refusal, framesIn, Implementation, after}
+use Rattle.history.specs.History.{Event, channelHistory, frames, windowOf, windowAt}
+use Rattle.history.specs.History.{Enabled, InEach, FullRun, LatchOn}
 
 -- the clauses on Z, for one window: Z < drop − 2, Z < drop + 2, Z ≥ pickup + 2, Z ≥ pickup − 2
 abbrev pub SurelyBelowDrop : ℕ → List ℤ → Type 0
@@ -65,7 +66,7 @@ module _ (d : Implementation) (drop pickup : List ℕ) where
   pub record RelayIs (calls : List Call) : Type 0 where
     -- "Refusal 2 never occurs in it", and a relay keeps the settings it was made with
     pub sound : soundOf (relayAfter calls) ≡ true
-    pub settings : relayAfter calls .settings ≡ settingsOf drop pickup
+    pub settings : relayAfter calls .settings ≡ record { drop = drop; pickup = pickup }
     -- so a frame "found age 72" exactly where its number is 72 or more; "frame n goes to slot n mod 8"
     pub age : relayAfter calls .age ≡ min 72 (framesIn calls)
     pub slot : relayAfter calls .slot ≡ framesIn calls % 8
@@ -75,7 +76,7 @@ module _ (d : Implementation) (drop pickup : List ℕ) where
     pub overLatch : (c : ℕ) → c < 6 → T (channelAt (relayAfter calls) c .«over_latch») ↔ LatchOn (overOf drop pickup c) (channelHistory c calls)
 
   -- What an accepted frame after the calls `past` answers. `calls` are these and the frame, which has the number framesIn past.
-  pub record FrameAnswered (past calls : List Call) (enable : ℕ) (answer : FrameAnswer) : Type 0 where
+  pub record FrameAnswered (past calls : List Call) (answer : FrameAnswer) : Type 0 where
     pub number : answer .number ≡ 0
     -- "Frame n answers the six m, each within 2 of Z"
     pub six : length (answer .amplitudes) ≡ 6
@@ -84,7 +85,10 @@ module _ (d : Implementation) (drop pickup : List ℕ) where
     pub bounded : (c : ℕ) → c < 6 → getD (answer .amplitudes) c 0 ≤ 10700
     -- "bit c is 1 exactly when channel c has a latch on by this rule after frame n and is enabled in it"
     pub output : (c : ℕ) → c < 6
-        → T (bitOf (answer .output) c) ↔ ((LatchOn (lossOf drop pickup c) (channelHistory c calls) ⊎ LatchOn (overOf drop pickup c) (channelHistory c calls)) × T (enabledIn enable c))
+        → T (bitOf (answer .output) c)
+        ↔ ((LatchOn (lossOf drop pickup c) (channelHistory c calls)
+        ⊎ LatchOn (overOf drop pickup c) (channelHistory c calls))
+        × Enabled (channelHistory c calls) (framesIn past))
     pub sixBits : answer .output < 64
     -- "The clauses on Z"
     pub lossMargins : (c : ℕ) → c < 6
@@ -98,14 +102,15 @@ module _ (d : Implementation) (drop pickup : List ℕ) where
   abbrev pub Answered : List Call → Call → Type 0
   Answered past (frame codes enable) =
       let answer : FrameAnswer = d .frame (relayAfter past) (codes .list) enable in
-      let number : ℕ = inputRefusal (codes .list) enable in
-      (number ≡ 0 → FrameAnswered past (past ++ (frame codes enable ∷ [])) enable answer)
-      × (¬ (number ≡ 0) → answer ≡ refusedFrame (relayAfter past) number)
+      let number : ℕ = refusal (frame codes enable) in
+      (number ≡ 0 → FrameAnswered past (past ++ (frame codes enable ∷ [])) answer)
+      × (¬ (number ≡ 0)
+      → answer ≡ record { relay = relayAfter past; number = number; amplitudes = replicate 6 0; output = 0 })
   Answered past (reset mask) =
       let answer : ResetAnswer = d .reset (relayAfter past) mask in
-      let number : ℕ = maskRefusal mask in
+      let number : ℕ = refusal (reset mask) in
       (number ≡ 0 → answer .number ≡ 0)
-      × (¬ (number ≡ 0) → answer ≡ refusedReset (relayAfter past) number)
+      × (¬ (number ≡ 0) → answer ≡ record { relay = relayAfter past; number = number })
 
   -- Demand 3, "a single claim about a whole list": the relay after each part of it from the start, and the answer of each call in it.
   pub record Demand3 (calls : List Call) : Type 0 where
@@ -114,9 +119,12 @@ module _ (d : Implementation) (drop pickup : List ℕ) where
     pub relay : (past rest : List Call) → calls ≡ past ++ rest → RelayIs past
     pub answers : (past : List Call) (call : Call) (rest : List Call) → calls ≡ past ++ (call ∷ rest) → Answered past call
 
--- the settings that document 01 accepts: nine levels, each "1 to 10,700"
-abbrev pub AcceptedSettings : List ℕ → List ℕ → Type 0
-AcceptedSettings drop pickup = settingsSound (settingsOf drop pickup) ≡ true
+-- The settings that document 01 accepts: "a drop level for each channel and a pickup level for each current, 1 to
+-- 10,700". Said here anew, and not through the relay's own check, so that a relay which refuses some of them does not
+-- meet the demand (`made`).
+pub record AcceptedSettings (drop pickup : List ℕ) : Type 0 where
+  pub drops : (c : ℕ) → c < 6 → (1 ≤ getD drop c 0) × (getD drop c 0 ≤ 10700)
+  pub pickups : (k : ℕ) → k < 3 → (1 ≤ getD pickup k 0) × (getD pickup k 0 ≤ 10700)
 
 -- Demand 3: "from a fresh relay made with accepted settings", every list, "the empty one too"; that making the relay accepts them is part of it.
 -- The code's arrays hold six and three levels, and its bytes are below 256; the claim is for any lists that hold at least these levels, and for

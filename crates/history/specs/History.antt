@@ -1,14 +1,13 @@
 -- The latch history, read from the calls alone and never from the relay (document 01, "Frames, runs, latches, resets").
--- Rests on the lists of calls, the sample of a code and the two kinds of run.
+-- Rests on the lists of calls and the two kinds of run.
 use Prim.Native.Nat.{ℕ, zero, suc, _+_, _%_, _≤_, _<_}
 use mathlib.Core.Path.{_≡_}
 use mathlib.Core.Bool.{Bool, false, _&&_, cond}
 use mathlib.Core.List.{List, [], _∷_, _++_}
-use lib.IntN.{ℤ, pos}
+use lib.IntN.{ℤ, pos, _-ℤ_}
 use lib.Dec.{T, eqb}
 use lib.ListN.{length, getD}
 use Rattle.phasor.specs.Each.{table}
-use Rattle.phasor.specs.Window.{sampleOf}
 use Rattle.relay.specs.Bits.{bitOf}
 use Rattle.relay.specs.Settings.{Kind}
 use Rattle.history.specs.Calls.{Call, frame, reset, accepted}
@@ -25,8 +24,10 @@ pub data Event : Type 0 where
   sampled : Input → Event
   cleared : Event  -- a reset that names it
 
+-- "its sample is s = code − 512"
 abbrev pub inputOf : ℕ → List ℕ → ℕ → Input
-inputOf c codes enable = record { sample = sampleOf (getD codes c 0); channelBit = bitOf enable c; bit6 = bitOf enable 6 }
+inputOf c codes enable =
+    record { sample = pos (getD codes c 0) -ℤ pos 512; channelBit = bitOf enable c; bit6 = bitOf enable 6 }
 
 abbrev pub eventsOf : ℕ → Call → List Event
 eventsOf c (frame codes enable) = cond (accepted (frame codes enable)) (sampled (inputOf c (codes .list) enable) ∷ []) []

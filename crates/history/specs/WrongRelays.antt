@@ -1,23 +1,25 @@
--- Wrong relays: those that document 01 names under "What a promise says here", 3, two of its "Mistakes to keep out", and two more. Each is
--- said of any implementation by the one thing that it does wrong to accepted calls, in lists from a relay made with accepted settings, whatever else it
--- does. None meets demand 3. Rests on the lists of calls.
+-- Wrong relays: those that document 01 names under "What a promise says here", 3, two of its "Mistakes to keep out",
+-- and three more. Each is said of any implementation by the one thing that it does wrong to calls that document 01
+-- accepts, in lists from a relay made with accepted settings, whatever else it does. None meets demand 3. Rests on the
+-- lists of calls.
 use Prim.Native.Nat.{ℕ, suc, _≤_, _<_}
 use mathlib.Core.Path.{_≡_}
 use mathlib.Core.List.{List, [], _∷_, _++_}
 use lib.ListN.{getD, replicate}
 use Rattle.relay.specs.declared.Relay.{Relay}
-use Rattle.relay.specs.Relay.{channelAt, amplitudeIn, inputRefusal, maskRefusal}
-use Rattle.history.specs.Calls.{Codes, Call, frame, framesIn, Implementation}
+use Rattle.relay.specs.Relay.{channelAt, amplitudeIn}
+use Rattle.history.specs.Calls.{Codes, Call, frame, reset, refusal, framesIn, Implementation}
 use Rattle.history.specs.Demand.{relayAfter, AcceptedSettings}
 
 -- P holds of each accepted frame in these lists: of the relay that it is given, its codes and its enable byte
 abbrev pub EachFrame : Implementation → (Relay → List ℕ → ℕ → Type 0) → Type 0
 EachFrame d P = (drop pickup : List ℕ) → AcceptedSettings drop pickup → (past : List Call) (codes : Codes) (enable : ℕ)
-    → inputRefusal (codes .list) enable ≡ 0 → P (relayAfter d drop pickup past) (codes .list) enable
+    → refusal (frame codes enable) ≡ 0 → P (relayAfter d drop pickup past) (codes .list) enable
 
 -- and the same of each accepted reset: of the relay that it is given and its mask
 abbrev pub EachReset : Implementation → (Relay → ℕ → Type 0) → Type 0
-EachReset d P = (drop pickup : List ℕ) → AcceptedSettings drop pickup → (past : List Call) (mask : ℕ) → maskRefusal mask ≡ 0 → P (relayAfter d drop pickup past) mask
+EachReset d P = (drop pickup : List ℕ) → AcceptedSettings drop pickup → (past : List Call) (mask : ℕ)
+    → refusal (reset mask) ≡ 0 → P (relayAfter d drop pickup past) mask
 
 -- the loss latches are the same in two relays
 abbrev pub SameLatches : Relay → Relay → Type 0
@@ -26,7 +28,7 @@ SameLatches r s = (c : ℕ) → c < 6 → channelAt r c .«loss_latch» ≡ chan
 -- of two successive accepted frames, the first of them counted, the second leaves the loss latches as the first handed them back
 abbrev pub FixedLatches : Implementation → Type 0
 FixedLatches d = (drop pickup : List ℕ) → AcceptedSettings drop pickup → (past : List Call) (one two : Codes) (enableOne enableTwo : ℕ)
-    → inputRefusal (one .list) enableOne ≡ 0 → inputRefusal (two .list) enableTwo ≡ 0 → 72 ≤ framesIn past
+    → refusal (frame one enableOne) ≡ 0 → refusal (frame two enableTwo) ≡ 0 → 72 ≤ framesIn past
     → SameLatches (d .frame (relayAfter d drop pickup (past ++ (frame one enableOne ∷ []))) (two .list) enableTwo .relay) (relayAfter d drop pickup (past ++ (frame one enableOne ∷ [])))
 
 pub data Wrong (d : Implementation) : Type 0 where
@@ -44,5 +46,9 @@ pub data Wrong (d : Implementation) : Type 0 where
   ignoresEnable : EachFrame d (λ r codes enable. d .frame r codes enable .relay ≡ d .frame r codes 127 .relay) → Wrong d
   -- m + 1 in place of each m: close to Z, and yet not "the six m"
   oneTooMany : EachFrame d (λ r codes enable. (c : ℕ) → c < 6 → getD (d .frame r codes enable .amplitudes) c 0 ≡ suc (amplitudeIn (r .slot) codes (r .channels) c)) → Wrong d
-  -- no fresh relay at all
-  refusesAll : ((drop pickup : List ℕ) → AcceptedSettings drop pickup → ¬ (d .fresh drop pickup .number ≡ 0)) → Wrong d
+  -- some settings that document 01 accepts are refused: all of them, or drop levels above 8,192
+  refusesSettings : (drop pickup : List ℕ) → AcceptedSettings drop pickup
+      → ¬ (d .fresh drop pickup .number ≡ 0) → Wrong d
+  -- some reset that document 01 accepts is refused, as one that names channel 5
+  refusesReset : (drop pickup : List ℕ) → AcceptedSettings drop pickup → (past : List Call) (mask : ℕ)
+      → refusal (reset mask) ≡ 0 → ¬ (d .reset (relayAfter d drop pickup past) mask .number ≡ 0) → Wrong d

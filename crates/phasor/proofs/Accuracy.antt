@@ -35,14 +35,14 @@ unfolding sumOver
 sum-is v w zero = of-pos 0
 sum-is v w (suc k) = add (sum-is v w k) (mul (of (sampleAt w k)) (of (getD v k (pos 0))))
 
-re-is : (w : List ℤ) → re w ≡ X (A w) (B w) (C w) (D w)
+pub re-is : (w : List ℤ) → re w ≡ X (A w) (B w) (C w) (D w)
 unfolding re cosines
 re-is w = agree (sum-is cosines w 8)
     (add (mul (of-pos 16384) (sub (of (sampleAt w 0)) (of (sampleAt w 4))))
     (mul (of-pos 11585) (add (sub (sub (of (sampleAt w 1)) (of (sampleAt w 3))) (of (sampleAt w 5))) (of (sampleAt w 7)))))
     (omega arith)
 
-im-is : (w : List ℤ) → im w ≡ Y (A w) (B w) (C w) (D w)
+pub im-is : (w : List ℤ) → im w ≡ Y (A w) (B w) (C w) (D w)
 unfolding im sines
 im-is w = agree (sum-is sines w 8)
     (add (mul (of-pos 16384) (sub (of (sampleAt w 2)) (of (sampleAt w 6))))

@@ -1,5 +1,6 @@
 -- The starred amplitude figures of document 01, "Bench figures", computed on the definitions. They pin what the distance to Z leaves open: the
--- steps, the shift, the factor and the weights to the last digit. Rests on the definitions alone.
+-- steps, the shift, the factor and the weights of slots 0 and 1, to the last digit. The other weights could move a little under them: Calls has
+-- each weight, and Theorems the law for all. Rests on the definitions alone.
 use mathlib.Core.Path.{_≡_, refl}
 use mathlib.Core.List.{List, [], _∷_}
 use lib.ListN.{replicate}

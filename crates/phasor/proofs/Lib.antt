@@ -1,5 +1,6 @@
 pub mod Each
 pub mod Figures
+pub mod Calls
 pub mod Samples
 pub mod Weights
 pub mod Rule

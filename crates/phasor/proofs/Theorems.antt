@@ -8,6 +8,7 @@ use lib.Dec.{T, le→leb}
 use lib.IntN.{ℤ, pos, negsuc, natAbs, _+ℤ_, _-ℤ_, _*ℤ_}
 use lib.Signed.{shrZ, nonNeg, _≤ℤ_}
 use Rattle.phasor.specs.Window.{windowSound}
+use Rattle.phasor.specs.Fourier.{re, im}
 use Rattle.phasor.specs.Cordic.{lastX, startOf, scaledOf, amplitudeOf}
 use Rattle.phasor.specs.Exact.{P, Q, A, B, C, D, AtLeast, AtMost, Below, Within}
 use Rattle.phasor.proofs.Trace as trace
@@ -29,6 +30,15 @@ amplitude-is w = go (lastX w) (not-negative w)
     go : (x : ℤ) → T (nonNeg x) → pos (natAbs (shrZ (x *ℤ pos 39797) (2 ^ 28))) ≡ shrZ (x *ℤ pos 39797) (2 ^ 28)
     go (pos n) t = refl
     go (negsuc n) t = absurd t
+
+-- ---- the weights
+
+-- Re = 16384 A + 11585 B and Im = 16384 C + 11585 D: sixteen weights are these two numbers, each sample under its own sign. For every window
+pub re-is : (w : List ℤ) → re w ≡ pos 16384 *ℤ A w +ℤ pos 11585 *ℤ B w
+re-is = accuracy.re-is
+
+pub im-is : (w : List ℤ) → im w ≡ pos 16384 *ℤ C w +ℤ pos 11585 *ℤ D w
+im-is = accuracy.im-is
 
 -- ---- accuracy
 

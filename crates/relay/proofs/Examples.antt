@@ -1,6 +1,6 @@
 -- Calls of the definitions, computed: the bench figures 75, 87 and 86, the worked example of the bench program, and one call for each rule and
 -- refusal. They show each rule and refusal at one place; they do not make a wrong definition impossible. Rests on the definitions alone.
-use Prim.Native.Nat.{ℕ, zero, suc}
+use Prim.Native.Nat.{ℕ, zero, suc, _+_, _-_}
 use mathlib.Core.Path.{_≡_, refl}
 use mathlib.Core.Bool.{Bool, true, false}
 use mathlib.Core.List.{List, [], _∷_, _++_, map}
@@ -20,12 +20,14 @@ use Rattle.relay.specs.Bits.{bitsBelow}
 use Rattle.relay.specs.Settings.{settingsOf, dropsSound, pickupsSound, levelsOf}
 use Rattle.relay.specs.Channel.{freshChannel, nextRun, channelAfter}
 use Rattle.relay.specs.Sound.{channelSound, channelsSound, soundOf}
-use Rattle.relay.specs.Relay.{freshRelay, zeroRelay, freshRefusal, freshOf, nextChannel, amplitudeIn, outputIn, acceptedFrame, refusedFrame, codesSound, inputRefusal, frameRefusal, frameOf, resetChannel, acceptedReset, refusedReset, maskRefusal, resetRefusal, resetOf}
+use Rattle.relay.specs.Relay.{channelAt, freshRelay, zeroRelay, freshRefusal, freshOf, nextChannel, amplitudeIn, outputIn, acceptedFrame}
+use Rattle.relay.specs.Relay.{refusedFrame, codesSound, inputRefusal, frameRefusal, frameOf}
+use Rattle.relay.specs.Relay.{resetChannel, acceptedReset, refusedReset, maskRefusal, resetRefusal, resetOf}
 
 -- ---- calls from a fresh relay
 
 -- code 512 on each channel
-abbrev quiet : List ℕ
+abbrev pub quiet : List ℕ
 quiet = replicate 6 512
 
 -- the wave 100, 71, 0, −71, −100, −71, 0, 71 on channels 3 and 4, code 512 on the others, cycle after cycle
@@ -43,7 +45,7 @@ outputs r (codes ∷ more) =
 -- ---- one call on a relay that is handed in
 
 -- equal drop levels and equal pickup levels
-abbrev equalLevels : ℕ → ℕ → Settings
+abbrev pub equalLevels : ℕ → ℕ → Settings
 equalLevels drop pickup = settingsOf (replicate 6 drop) (replicate 3 pickup)
 
 -- the levels of one channel
@@ -51,12 +53,12 @@ abbrev own : ℕ → ℕ → Bool → Levels
 own drop pickup current = record { drop = drop; pickup = pickup; current = current }
 
 -- a channel with a window of zeros
-abbrev channel : ℕ → ℕ → Bool → Bool → Channel
+abbrev pub channel : ℕ → ℕ → Bool → Bool → Channel
 channel lossRun overRun lossLatch overLatch =
     record { samples = replicate 8 (pos 0); «loss_run» = lossRun; «over_run» = overRun; «loss_latch» = lossLatch; «over_latch» = overLatch }
 
 -- six channels that have seen nothing
-abbrev still : List Channel
+abbrev pub still : List Channel
 still = replicate 6 (channel 0 0 false false)
 
 abbrev relay : ℕ → ℕ → List Channel → Relay
@@ -72,18 +74,101 @@ refusedAnswer r number = record { relay = r; number = number; amplitudes = repli
 abbrev resetAnswer : Relay → ℕ → ResetAnswer
 resetAnswer r number = record { relay = r; number = number }
 
--- a settled relay with a loss run on each channel and an over run on each current; a channel after a first sample of 100
-abbrev currents : ℕ → ℕ → ℕ → Relay
-currents level lossRun overRun =
-    record { channels = replicate 3 (channel lossRun 0 false false) ++ replicate 3 (channel lossRun overRun false false); age = 72; slot = 0; settings = equalLevels level level }
+-- a settled relay with a loss run on each channel and an over run on each current, all latches on or all off
+abbrev running : ℕ → ℕ → ℕ → ℕ → Bool → Relay
+running drop pickup lossRun overRun latch =
+    record {
+      channels = replicate 3 (channel lossRun 0 latch false) ++ replicate 3 (channel lossRun overRun latch latch);
+      age = 72;
+      slot = 0;
+      settings = equalLevels drop pickup;
+    }
 
-abbrev struck : ℕ → ℕ → Bool → Channel
-struck lossRun overRun overLatch =
-    record { samples = pos 100 ∷ replicate 7 (pos 0); «loss_run» = lossRun; «over_run» = overRun; «loss_latch» = false; «over_latch» = overLatch }
+-- a channel after a first sample of 100
+abbrev struck : ℕ → ℕ → Bool → Bool → Channel
+struck lossRun overRun lossLatch overLatch =
+    record { samples = pos 100 ∷ replicate 7 (pos 0); «loss_run» = lossRun; «over_run» = overRun; «loss_latch» = lossLatch; «over_latch» = overLatch }
+
+-- such a relay after a frame of code 612 on each channel, whose amplitude is 400
+abbrev struckAll : ℕ → ℕ → ℕ → ℕ → Bool → Bool → ℕ → FrameAnswer
+struckAll drop pickup lossRun overRun lossLatch overLatch output =
+    record {
+      relay = record {
+        channels = replicate 3 (struck lossRun 0 lossLatch false) ++ replicate 3 (struck lossRun overRun lossLatch overLatch);
+        age = 72;
+        slot = 1;
+        settings = equalLevels drop pickup;
+      };
+      number = 0;
+      amplitudes = replicate 6 400;
+      output = output;
+    }
 
 -- six channels with a full loss run and its latch on, in a settled relay
 abbrev tripped : Relay
 tripped = relay 72 7 (replicate 6 (channel 16 0 true false))
+
+-- runs above 0 and latches on, as no list of calls leaves them at an age below 72; the last channel is given
+abbrev early : Channel → List Channel
+early last = replicate 3 (channel 7 0 true false) ++ (channel 0 2 true true ∷ channel 7 2 false true ∷ last ∷ [])
+
+-- a channel that a frame of code 512 in slot 3 leaves as `struck`: 7 stands in that slot
+abbrev marked : ℕ → ℕ → Bool → Bool → Channel
+marked lossRun overRun lossLatch overLatch =
+    record {
+      samples = pos 100 ∷ pos 0 ∷ pos 0 ∷ pos 7 ∷ replicate 4 (pos 0);
+      «loss_run» = lossRun;
+      «over_run» = overRun;
+      «loss_latch» = lossLatch;
+      «over_latch» = overLatch;
+    }
+
+abbrev handed : ℕ → ℕ → ℕ → ℕ → List Channel → Relay
+handed age slot drop pickup channels = record { channels = channels; age = age; slot = slot; settings = equalLevels drop pickup }
+
+-- such a frame's answer: each amplitude is 400
+abbrev answer400 : Relay → ℕ → FrameAnswer
+answer400 r output = record { relay = r; number = 0; amplitudes = replicate 6 400; output = output }
+
+-- six channels that are all in other states, and what a frame that is not counted makes of them
+abbrev mixed : List Channel
+mixed =
+    marked 7 0 false false
+    ∷ marked 16 0 false false
+    ∷ marked 16 0 false false
+    ∷ marked 7 2 true false
+    ∷ marked 3 2 true true
+    ∷ marked 0 4 false false ∷ []
+
+abbrev mixedAfter : List Channel
+mixedAfter =
+    struck 7 0 false false
+    ∷ struck 16 0 true false
+    ∷ struck 16 0 true false
+    ∷ struck 7 2 true false
+    ∷ struck 3 2 true true
+    ∷ struck 0 4 false true ∷ []
+
+-- six more, for frames that are counted
+abbrev full : List Channel
+full =
+    marked 16 0 false false
+    ∷ marked 16 0 false false
+    ∷ marked 9 0 true false
+    ∷ marked 9 2 true true
+    ∷ marked 0 4 false false
+    ∷ marked 9 4 true true ∷ []
+
+-- a relay of which no channel and no level is in range
+abbrev brokenChannel : Channel
+brokenChannel = record { samples = replicate 8 (pos 600); «loss_run» = 17; «over_run» = 5; «loss_latch» = true; «over_latch» = true }
+
+abbrev broken : Relay
+broken = handed 5 3 0 10701 (replicate 6 brokenChannel)
+
+-- the channels whose loss latch is on, as bits
+abbrev latched : Relay → ℕ
+latched r = bitsBelow 6 (λ c. channelAt r c .«loss_latch»)
 
 pub record Examples : Type 0 where
   -- "That wave steady on channel 3 from frame 0, pickup 1603: over latch in frame 75. Pickup 1604: never."
@@ -91,92 +176,162 @@ pub record Examples : Type 0 where
   figures : outputs (freshOf (replicate 6 1) (1603 ∷ 1604 ∷ 1604 ∷ []) .relay) (waves 11) ≡ replicate 75 0 ++ replicate 12 8 ++ (47 ∷ [])
   -- a fresh relay, at the ends of "1 to 10,700"; refusal 1 with the all-zero relay
   fresh : freshOf (replicate 6 1) (replicate 3 10700) ≡ record { relay = record { channels = still; age = 0; slot = 0; settings = equalLevels 1 10700 }; number = 0 }
+  highest-drops : freshOf (replicate 6 10700) (replicate 3 1)
+      ≡ record { relay = record { channels = still; age = 0; slot = 0; settings = equalLevels 10700 1 }; number = 0 }
+  -- each level is kept in its place
+  nine-levels : freshOf (1 ∷ 2 ∷ 3 ∷ 4 ∷ 5 ∷ 6 ∷ []) (7 ∷ 8 ∷ 9 ∷ []) ≡ record {
+    relay = record {
+      channels = still;
+      age = 0;
+      slot = 0;
+      settings = record { drop = 1 ∷ 2 ∷ 3 ∷ 4 ∷ 5 ∷ 6 ∷ []; pickup = 7 ∷ 8 ∷ 9 ∷ [] };
+    };
+    number = 0;
+  }
+  -- whichever level is out of range, and however
   drop-low : freshOf (0 ∷ replicate 5 1) (replicate 3 1) ≡ record { relay = record { channels = still; age = 0; slot = 0; settings = equalLevels 0 0 }; number = 1 }
-  drop-last : freshOf (replicate 5 1 ++ (10701 ∷ [])) (replicate 3 1) .number ≡ 1
-  pickup-high : freshOf (replicate 6 1) (10701 ∷ 1 ∷ 1 ∷ []) .number ≡ 1
-  pickup-last : freshOf (replicate 6 1) (1 ∷ 1 ∷ 0 ∷ []) .number ≡ 1
+  drop-high : freshOf (10701 ∷ replicate 5 1) (replicate 3 1) ≡ record { relay = handed 0 0 0 0 still; number = 1 }
+  pickup-low : freshOf (replicate 6 819) (3413 ∷ 3413 ∷ 0 ∷ []) ≡ record { relay = handed 0 0 0 0 still; number = 1 }
   -- "a drop level for each channel and a pickup level for each current": each channel has its own
   own-levels : table 6 (levelsOf (settingsOf (1 ∷ 2 ∷ 3 ∷ 4 ∷ 5 ∷ 6 ∷ []) (7 ∷ 8 ∷ 9 ∷ []))) ≡ own 1 0 false ∷ own 2 0 false ∷ own 3 0 false ∷ own 4 7 true ∷ own 5 8 true ∷ own 6 9 true ∷ []
   -- the bench program's example, amplitudes 400 0 0 0 0 0: the sample goes to slot 0, the slot advances and age is 1
   first : frameOf (relay 0 0 still) (612 ∷ replicate 5 512) 127 ≡ record {
-    relay = relay 1 1 (struck 0 0 false ∷ replicate 5 (channel 0 0 false false));
+    relay = relay 1 1 (struck 0 0 false false ∷ replicate 5 (channel 0 0 false false));
     number = 0;
     amplitudes = 400 ∷ replicate 5 0;
     output = 0;
   }
+  -- each age, and each slot
+  ages : table 73 (λ age. frameOf (relay age 3 still) quiet 127 .relay .age) ≡ table 72 (λ n. n + 1) ++ (72 ∷ [])
+  slots : table 8 (λ slot. frameOf (relay 5 slot still) quiet 127 .relay .slot) ≡ 1 ∷ 2 ∷ 3 ∷ 4 ∷ 5 ∷ 6 ∷ 7 ∷ 0 ∷ []
   -- the frame that takes age from 71 to 72 is not counted and leaves all runs as they were, enabled or not; a full run that was handed in turns its
   -- latch on all the same (step 4 is in every accepted frame)
   not-counted : frameOf (relay 71 7 (channel 16 0 false false ∷ replicate 5 (channel 3 0 false false))) quiet 65 ≡ acceptedAnswer (relay 72 0 (channel 16 0 true false ∷ replicate 5 (channel 3 0 false false))) 1
   -- a counted frame: a run grows by 1, turns its latch on at 16, and grows no more
   grows : frameOf (relay 72 7 (channel 14 0 false false ∷ channel 15 0 false false ∷ replicate 4 (channel 16 0 true false))) quiet 127 ≡ acceptedAnswer (relay 72 0 (channel 15 0 false false ∷ channel 16 0 true false ∷ replicate 4 (channel 16 0 true false))) 62
+  -- so does a full over run in a frame that is not counted
+  not-counted-over : frameOf (relay 71 7 (replicate 3 (channel 0 0 false false) ++ replicate 3 (channel 0 4 false false))) quiet 127
+      ≡ acceptedAnswer (relay 72 0 (replicate 3 (channel 0 0 false false) ++ replicate 3 (channel 0 4 false true))) 56
   -- at m = 400: a drop level of 400 is not met and one of 401 is; a pickup level of 400 is met and one of 401 is not. An over run at 3 becomes 4 and
   -- turns its latch on, and a voltage has none
-  at-levels : frameOf (currents 400 9 3) (replicate 6 612) 127 ≡ record {
-    relay = record {
-      channels = replicate 3 (struck 0 0 false) ++ replicate 3 (struck 0 4 true);
-      age = 72;
-      slot = 1;
-      settings = equalLevels 400 400;
-    };
-    number = 0;
-    amplitudes = replicate 6 400;
-    output = 56;
-  }
-  above-levels : frameOf (currents 401 9 3) (replicate 6 612) 127 .relay .channels ≡ replicate 6 (struck 10 0 false)
+  at-levels : frameOf (running 400 400 9 3 false) (replicate 6 612) 127 ≡ struckAll 400 400 0 4 false true 56
+  above-levels : frameOf (running 401 401 9 3 false) (replicate 6 612) 127 ≡ struckAll 401 401 10 0 false false 0
+  -- a level that is not met makes a full run 0: a latch that was off stays off, and one that was on stays on
+  not-met : frameOf (running 400 401 16 4 false) (replicate 6 612) 127 ≡ struckAll 400 401 0 0 false false 0
+  not-met-latched : frameOf (running 400 401 16 4 true) (replicate 6 612) 127 ≡ struckAll 400 401 0 0 true true 63
+  -- an over run grows no more at 4
+  over-grows : frameOf (running 400 400 0 4 true) (replicate 6 612) 127 ≡ struckAll 400 400 0 4 true true 63
+  -- six channels in six states, some enabled (0, 2 and 3) or none for want of bit 6: a frame that is not counted leaves every run, turns on the latch
+  -- of each full one, and answers each amplitude
+  mixed-not-counted : frameOf (handed 0 3 400 400 mixed) quiet 0x4D ≡ answer400 (handed 1 4 400 400 mixedAfter) 12
+  mixed-device-off : frameOf (handed 0 3 400 400 mixed) quiet 0x3F ≡ answer400 (handed 1 4 400 400 mixedAfter) 0
+  -- a counted frame, of which channels 1 and 5 are not enabled, and one of which none is: a full run is gone before step 4
+  mixed-counted : frameOf (handed 72 3 401 400 full) quiet 0x5D ≡ answer400
+      (handed 72 4 401 400
+      (struck 16 0 true false
+      ∷ struck 0 0 false false
+      ∷ struck 10 0 true false
+      ∷ struck 10 3 true true
+      ∷ struck 1 4 false true
+      ∷ struck 0 0 true true ∷ []))
+      29
+  mixed-all-off : frameOf (handed 72 3 401 400 full) quiet 0x40 ≡ answer400
+      (handed 72 4 401 400
+      (struck 0 0 false false
+      ∷ struck 0 0 false false
+      ∷ struck 0 0 true false
+      ∷ struck 0 0 true true
+      ∷ struck 0 0 false false
+      ∷ struck 0 0 true true ∷ []))
+      0
+  -- "sound" asks no tie between fields: any slot with any age, runs and latches at any age, a latch on with run 0
+  no-tie : frameOf (relay 5 3 (early (channel 16 4 false false))) quiet 127 ≡ acceptedAnswer (relay 6 4 (early (channel 16 4 true true))) 63
+  no-tie-reset : resetOf (relay 5 3 (early (channel 16 4 false false))) 32 ≡ resetAnswer (relay 5 3 (early (channel 0 0 false false))) 0
   -- a channel that is not enabled: its runs become 0, its latch stays, its output bit is 0; bit 6 off disables all
   disabled : frameOf tripped quiet 66 ≡ acceptedAnswer (relay 72 0 (channel 0 0 true false ∷ channel 16 0 true false ∷ replicate 4 (channel 0 0 true false))) 2
+  -- each enable byte: six latches are on, and the output shows those that are enabled
+  each-enable : table 128 (λ enable. frameOf tripped quiet enable .output) ≡ replicate 64 0 ++ table 64 (λ n. n)
   device-off : frameOf tripped quiet 63 ≡ acceptedAnswer (relay 72 0 (replicate 6 (channel 0 0 true false))) 0
-  -- a reset clears the channels that it names and nothing else, and age stays 72; mask 0 is accepted; bits 6 and 7 are refused
+  -- a reset clears the channels that it names and nothing else, and age stays 72; masks 0 to 63 are accepted; bits 6 and 7 are refused
   resets : resetOf tripped 5 ≡ resetAnswer (relay 72 7 (channel 0 0 false false ∷ channel 16 0 true false ∷ channel 0 0 false false ∷ replicate 3 (channel 16 0 true false))) 0
   resets-over : resetOf (relay 72 7 (replicate 3 (channel 0 0 false false) ++ replicate 3 (channel 16 4 true true))) 16 ≡ resetAnswer (relay 72 7 (replicate 3 (channel 0 0 false false) ++ (channel 16 4 true true ∷ channel 0 0 false false ∷ channel 16 4 true true ∷ []))) 0
+  -- windows, slot, age and settings stay, also of a channel that is named
+  resets-mixed : resetOf (handed 72 3 400 401 full) 0x29 ≡ resetAnswer
+      (handed 72 3 400 401
+      (marked 0 0 false false
+      ∷ marked 16 0 false false
+      ∷ marked 9 0 true false
+      ∷ marked 0 0 false false
+      ∷ marked 0 4 false false
+      ∷ marked 0 0 false false ∷ []))
+      0
   resets-none : resetOf tripped 0 ≡ resetAnswer tripped 0
+  -- each mask: six latches are on, and the reset leaves those that it does not name
+  each-mask : table 64 (λ mask. latched (resetOf tripped mask .relay)) ≡ table 64 (λ mask. 63 - mask)
+  resets-last : resetOf tripped 32 ≡ resetAnswer (relay 72 7 (replicate 5 (channel 16 0 true false) ++ (channel 0 0 false false ∷ []))) 0
+  resets-all : resetOf tripped 63 ≡ resetAnswer (relay 72 7 still) 0
   bad-mask : resetOf tripped 64 ≡ resetAnswer tripped 5
   bad-mask-7 : resetOf tripped 129 ≡ resetAnswer tripped 5
   -- "Code 1023 is accepted, 1024 refused."
   highest : frameOf tripped (1023 ∷ replicate 5 512) 127 .number ≡ 0
   bad-code : frameOf tripped (replicate 5 512 ++ (1024 ∷ [])) 255 ≡ refusedAnswer tripped 3
-  bad-enable : frameOf tripped quiet 128 ≡ refusedAnswer tripped 4
+  bad-enable : frameOf tripped (replicate 6 612) 128 ≡ refusedAnswer tripped 4
+  -- channel c is read as the c-th
+  each-channel : table 6 (channelAt (relay 5 3 (early (channel 16 4 false false)))) ≡ early (channel 16 4 false false)
   -- a relay that is not sound is handed back as it was given, and that check comes first
   unsound : frameOf (relay 73 0 still) (replicate 6 1024) 128 ≡ refusedAnswer (relay 73 0 still) 2
   unsound-reset : resetOf (relay 72 8 still) 128 ≡ resetAnswer (relay 72 8 still) 2
+  broken-frame : frameOf broken (replicate 6 612) 127 ≡ refusedAnswer broken 2
+  broken-reset : resetOf broken 63 ≡ resetAnswer broken 2
   zero-relay : frameOf (freshOf (replicate 6 0) (replicate 3 0) .relay) quiet 127 .number ≡ 2
-  wide-sample : resetOf (relay 72 0 (replicate 5 (channel 0 0 false false) ++ (record { samples = pos 512 ∷ replicate 7 (pos 0); «loss_run» = 0; «over_run» = 0; «loss_latch» = false; «over_latch» = false } ∷ []))) 0 .number ≡ 2
-  over-latch : resetOf (relay 72 0 (replicate 2 (channel 0 0 false false) ++ replicate 4 (channel 0 0 false true))) 0 .number ≡ 2
-  over-voltage : resetOf (relay 72 0 (channel 0 1 false false ∷ replicate 5 (channel 0 0 false false))) 0 .number ≡ 2
-  long-run : resetOf (relay 72 0 (channel 17 0 false false ∷ replicate 5 (channel 0 0 false false))) 0 .number ≡ 2
-  long-over : resetOf (relay 72 0 (replicate 5 (channel 0 0 false false) ++ (channel 0 5 false false ∷ []))) 0 .number ≡ 2
 
 pub examples : Examples
 unfolding outputs waves cosines sines sumOver re im stepAt steps startOf lastX scaledOf amplitudeOf every table windowSound bitsBelow dropsSound pickupsSound levelsOf freshChannel nextRun channelAfter channelSound channelsSound soundOf freshRelay zeroRelay freshRefusal freshOf nextChannel amplitudeIn outputIn acceptedFrame refusedFrame codesSound inputRefusal frameRefusal frameOf resetChannel acceptedReset refusedReset maskRefusal resetRefusal resetOf
 examples = record {
   figures = refl;
   fresh = refl;
+  highest-drops = refl;
+  nine-levels = refl;
   drop-low = refl;
-  drop-last = refl;
-  pickup-high = refl;
-  pickup-last = refl;
+  drop-high = refl;
+  pickup-low = refl;
   own-levels = refl;
   first = refl;
+  ages = refl;
+  slots = refl;
   not-counted = refl;
+  not-counted-over = refl;
   grows = refl;
   at-levels = refl;
   above-levels = refl;
+  not-met = refl;
+  not-met-latched = refl;
+  over-grows = refl;
+  mixed-not-counted = refl;
+  mixed-device-off = refl;
+  mixed-counted = refl;
+  mixed-all-off = refl;
+  no-tie = refl;
+  no-tie-reset = refl;
   disabled = refl;
+  each-enable = refl;
   device-off = refl;
   resets = refl;
   resets-over = refl;
+  resets-mixed = refl;
   resets-none = refl;
+  each-mask = refl;
+  resets-last = refl;
+  resets-all = refl;
   bad-mask = refl;
   bad-mask-7 = refl;
   highest = refl;
   bad-code = refl;
   bad-enable = refl;
+  each-channel = refl;
   unsound = refl;
   unsound-reset = refl;
+  broken-frame = refl;
+  broken-reset = refl;
   zero-relay = refl;
-  wide-sample = refl;
-  over-latch = refl;
-  over-voltage = refl;
-  long-run = refl;
-  long-over = refl;
 }

@@ -1,3 +1,4 @@
 pub mod Example
+pub mod Laws
 pub mod Lines
 pub mod Outcome

@@ -1,0 +1,136 @@
+-- Which settings and which relays are accepted, computed: each level and each field of a relay out of its range alone, at each end that its type
+-- has, in each channel. They pin each condition of a sound relay, a term of document 01, by itself; that no other is asked, Examples shows. Rests on
+-- the definitions alone.
+use Prim.Native.Nat.{ℕ}
+use mathlib.Core.Path.{_≡_, refl}
+use mathlib.Core.Bool.{true, false}
+use mathlib.Core.List.{List, [], _∷_, _++_}
+use lib.IntN.{ℤ, pos, negℤ}
+use lib.ListN.{set, replicate}
+use Rattle.relay.specs.declared.Channel.{Channel}
+use Rattle.relay.specs.declared.Settings.{Settings}
+use Rattle.relay.specs.declared.Relay.{Relay}
+use Rattle.phasor.specs.Each.{every, table}
+use Rattle.phasor.specs.Window.{windowSound}
+use Rattle.relay.specs.Settings.{settingsOf, dropsSound, pickupsSound}
+use Rattle.relay.specs.Sound.{channelSound, channelsSound, soundOf}
+use Rattle.relay.specs.Relay.{freshRefusal, freshOf, acceptedFrame, refusedFrame, codesSound, inputRefusal, frameRefusal, frameOf}
+use Rattle.relay.specs.Relay.{acceptedReset, refusedReset, maskRefusal, resetRefusal, resetOf}
+use Rattle.relay.proofs.Examples.{quiet, equalLevels, channel, still}
+
+-- ---- the numbers that two calls on a relay answer, a frame and a reset
+
+abbrev numbers : Relay → List ℕ
+numbers r = frameOf r quiet 127 .number ∷ resetOf r 63 .number ∷ []
+
+abbrev bothAccepted : List ℕ
+bothAccepted = 0 ∷ 0 ∷ []
+
+abbrev bothRefused : List ℕ
+bothRefused = 2 ∷ 2 ∷ []
+
+abbrev aged : ℕ → ℕ → List ℕ
+aged age slot = numbers (record { channels = still; age = age; slot = slot; settings = equalLevels 819 3413 })
+
+abbrev under : Settings → List ℕ
+under settings = numbers (record { channels = still; age = 72; slot = 0; settings = settings })
+
+-- channel c is as given, and the others have seen nothing
+abbrev holding : Channel → ℕ → List ℕ
+holding ch c = numbers (record { channels = set still c ch; age = 72; slot = 0; settings = equalLevels 819 3413 })
+
+-- the same for each channel: in all six alike, or otherwise in voltages and currents
+abbrev inEach : Channel → List (List ℕ)
+inEach ch = table 6 (holding ch)
+
+abbrev eachAccepted : List (List ℕ)
+eachAccepted = replicate 6 bothAccepted
+
+abbrev eachRefused : List (List ℕ)
+eachRefused = replicate 6 bothRefused
+
+abbrev currentsAlone : List (List ℕ)
+currentsAlone = replicate 3 bothRefused ++ replicate 3 bothAccepted
+
+-- a channel with one sample in slot k, else zeros; each slot of each channel in turn
+abbrev sampled : ℤ → ℕ → Channel
+sampled s k = record { samples = set (replicate 8 (pos 0)) k s; «loss_run» = 0; «over_run» = 0; «loss_latch» = false; «over_latch» = false }
+
+abbrev inEachSlot : ℤ → List (List (List ℕ))
+inEachSlot s = table 8 (λ k. inEach (sampled s k))
+
+-- what each byte gives as the enable byte of a frame and as the mask of a reset
+abbrev byEnable : Relay → List ℕ
+byEnable r = table 256 (λ enable. frameOf r quiet enable .number)
+
+abbrev byMask : Relay → List ℕ
+byMask r = table 256 (λ mask. resetOf r mask .number)
+
+abbrev settled : ℕ → Relay
+settled slot = record { channels = still; age = 72; slot = slot; settings = equalLevels 819 3413 }
+
+-- ---- one level apart from the others, in each place: what making a relay answers, and what the two calls on a relay that has it answer
+
+abbrev dropped : ℕ → ℕ → Settings
+dropped level c = settingsOf (set (replicate 6 819) c level) (replicate 3 3413)
+
+abbrev picked : ℕ → ℕ → Settings
+picked level k = settingsOf (replicate 6 819) (set (replicate 3 3413) k level)
+
+abbrev withLevel : Settings → List ℕ
+withLevel s = freshOf (s .drop) (s .pickup) .number ∷ under s
+
+abbrev eachDrop : ℕ → List (List ℕ)
+eachDrop level = table 6 (λ c. withLevel (dropped level c))
+
+abbrev eachPickup : ℕ → List (List ℕ)
+eachPickup level = table 3 (λ k. withLevel (picked level k))
+
+pub record SoundCalls : Type 0 where
+  -- "enable bit 7 is 1", "reset mask bit 6 or 7 is 1", of every byte; a relay that is not sound comes first
+  pub bytes : (byEnable (settled 7) ≡ replicate 128 0 ++ replicate 128 4) × (byMask (settled 7) ≡ replicate 64 0 ++ replicate 192 5)
+  pub bytes-unsound : (byEnable (settled 8) ≡ replicate 256 2) × (byMask (settled 8) ≡ replicate 256 2)
+  -- "settings are in range", 1 to 10,700: each drop level and each pickup level
+  pub lowest : (eachDrop 1 ≡ replicate 6 (0 ∷ bothAccepted)) × (eachPickup 1 ≡ replicate 3 (0 ∷ bothAccepted))
+  pub highest : (eachDrop 10700 ≡ replicate 6 (0 ∷ bothAccepted)) × (eachPickup 10700 ≡ replicate 3 (0 ∷ bothAccepted))
+  pub none : (eachDrop 0 ≡ replicate 6 (1 ∷ bothRefused)) × (eachPickup 0 ≡ replicate 3 (1 ∷ bothRefused))
+  pub above : (eachDrop 10701 ≡ replicate 6 (1 ∷ bothRefused)) × (eachPickup 10701 ≡ replicate 3 (1 ∷ bothRefused))
+  pub far-above : (eachDrop 65535 ≡ replicate 6 (1 ∷ bothRefused)) × (eachPickup 65535 ≡ replicate 3 (1 ∷ bothRefused))
+  -- "age is 0 to 72, slot 0 to 7"
+  pub ages : (aged 0 0 ≡ bothAccepted) × (aged 72 0 ≡ bothAccepted) × (aged 73 0 ≡ bothRefused) × (aged 255 0 ≡ bothRefused)
+  pub slots : (aged 72 7 ≡ bothAccepted) × (aged 72 8 ≡ bothRefused) × (aged 72 255 ≡ bothRefused)
+  -- "samples −512 to 511", in each slot
+  pub samples : (inEachSlot (negℤ (pos 512)) ≡ replicate 8 eachAccepted) × (inEachSlot (pos 511) ≡ replicate 8 eachAccepted)
+  pub low-samples : (inEachSlot (negℤ (pos 513)) ≡ replicate 8 eachRefused) × (inEachSlot (negℤ (pos 32768)) ≡ replicate 8 eachRefused)
+  pub high-samples : (inEachSlot (pos 512) ≡ replicate 8 eachRefused) × (inEachSlot (pos 32767) ≡ replicate 8 eachRefused)
+  -- "loss runs 0 to 16", with the latch on or off
+  pub loss-runs : (inEach (channel 16 0 false false) ≡ eachAccepted) × (inEach (channel 16 0 true false) ≡ eachAccepted)
+  pub long-losses : (inEach (channel 17 0 true false) ≡ eachRefused) × (inEach (channel 255 0 false false) ≡ eachRefused)
+  -- "over runs 0 to 4. A voltage has no over run and no over latch; a place kept for one must hold 0 or off."
+  pub over-runs : (inEach (channel 0 1 false false) ≡ currentsAlone) × (inEach (channel 0 4 false false) ≡ currentsAlone)
+  pub long-overs : (inEach (channel 0 5 false true) ≡ eachRefused) × (inEach (channel 0 255 false false) ≡ eachRefused)
+  pub over-latches : (inEach (channel 0 0 false true) ≡ currentsAlone) × (inEach (channel 0 0 true false) ≡ eachAccepted)
+
+pub calls : SoundCalls
+unfolding every table windowSound dropsSound pickupsSound channelSound channelsSound soundOf freshRefusal freshOf acceptedFrame refusedFrame
+    codesSound inputRefusal frameRefusal frameOf acceptedReset refusedReset maskRefusal resetRefusal resetOf
+calls =
+    record {
+      bytes = (refl, refl);
+      bytes-unsound = (refl, refl);
+      lowest = (refl, refl);
+      highest = (refl, refl);
+      none = (refl, refl);
+      above = (refl, refl);
+      far-above = (refl, refl);
+      ages = (refl, refl, refl, refl);
+      slots = (refl, refl, refl);
+      samples = (refl, refl);
+      low-samples = (refl, refl);
+      high-samples = (refl, refl);
+      loss-runs = (refl, refl);
+      long-losses = (refl, refl);
+      over-runs = (refl, refl);
+      long-overs = (refl, refl);
+      over-latches = (refl, refl);
+    }
