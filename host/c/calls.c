@@ -1,18 +1,20 @@
-/* Uses the archive as a firmware team would: a relay is made, fed and reset, a recording is written, read back, searched and reported. The
- * values are document 01's bench figures; each refusal occurs, with all that it answers. It says `ok`, or what failed. */
+/* Uses the archive as a firmware team would: a relay is made, fed and reset, a recording is written, read back,
+ * searched and reported. The values are document 01's bench figures; each refusal occurs, with all that it answers.
+ * It says `ok`, or what failed. */
 #include "export.h"
 
 #include <stdio.h>
 #include <string.h>
 
-_Static_assert(sizeof(p6k_channel) == 20 && offsetof(p6k_channel, loss_run) == 16 && offsetof(p6k_channel, over_run) == 17, "layout");
-_Static_assert(offsetof(p6k_channel, loss_latch) == 18 && offsetof(p6k_channel, over_latch) == 19 && sizeof(bool) == 1, "layout");
+_Static_assert(sizeof(bool) == 1 && sizeof(p6k_channel) == 20, "layout");
+_Static_assert(offsetof(p6k_channel, loss_run) == 16 && offsetof(p6k_channel, over_run) == 17, "layout");
+_Static_assert(offsetof(p6k_channel, loss_latch) == 18 && offsetof(p6k_channel, over_latch) == 19, "layout");
 _Static_assert(sizeof(p6k_settings) == 18 && offsetof(p6k_settings, pickup) == 12 && sizeof(p6k_codes) == 12, "layout");
-_Static_assert(sizeof(p6k_relay) == 140 && offsetof(p6k_relay, age) == 120 && offsetof(p6k_relay, slot) == 121, "layout");
-_Static_assert(offsetof(p6k_relay, settings) == 122, "layout");
-_Static_assert(sizeof(p6k_fresh_answer) == 142 && offsetof(p6k_fresh_answer, number) == 140, "layout");
-_Static_assert(sizeof(p6k_reset_answer) == 142 && offsetof(p6k_reset_answer, number) == 140, "layout");
-_Static_assert(sizeof(p6k_frame_answer) == 156 && offsetof(p6k_frame_answer, number) == 140, "layout");
+_Static_assert(sizeof(p6k_relay) == 140 && offsetof(p6k_relay, age) == 120, "layout");
+_Static_assert(offsetof(p6k_relay, slot) == 121 && offsetof(p6k_relay, settings) == 122, "layout");
+_Static_assert(sizeof(p6k_fresh_answer) == 142 && offsetof(p6k_fresh_answer, refusal) == 140, "layout");
+_Static_assert(sizeof(p6k_reset_answer) == 142 && offsetof(p6k_reset_answer, refusal) == 140, "layout");
+_Static_assert(sizeof(p6k_frame_answer) == 156 && offsetof(p6k_frame_answer, refusal) == 140, "layout");
 _Static_assert(offsetof(p6k_frame_answer, amplitudes) == 142 && offsetof(p6k_frame_answer, output) == 154, "layout");
 _Static_assert(sizeof(p6k_answer) == 16 && offsetof(p6k_answer, count) == 8, "layout");
 _Static_assert(sizeof(p6k_strongest_window) == 16 && offsetof(p6k_strongest_window, sum) == 4, "layout");
@@ -50,7 +52,7 @@ static unsigned first_trip(p6k_settings settings, int c)
     p6k_relay relay = p6k_fresh(settings).relay;
     for (unsigned n = 0; n < 100; n++) {
         p6k_frame_answer answer = p6k_frame(relay, codes_at(n), 0x7F);
-        if (answer.number != P6K_ACCEPTED)
+        if (answer.refusal != P6K_ACCEPTED)
             return 200;
         relay = answer.relay;
         if (answer.output >> c & 1)
@@ -68,8 +70,9 @@ static int relays(void)
     p6k_fresh_answer refused = p6k_fresh(settings_of(0, 3413));
     p6k_relay zero;
     memset(&zero, 0, sizeof zero);
-    CHECK(refused.number == P6K_BAD_SETTING && memcmp(&refused.relay, &zero, sizeof zero) == 0);
-    CHECK(p6k_frame(zero, codes_at(0), 0x7F).number == P6K_UNSOUND_RELAY && p6k_reset(zero, 0).number == P6K_UNSOUND_RELAY);
+    CHECK(refused.refusal == P6K_BAD_SETTING && memcmp(&refused.relay, &zero, sizeof zero) == 0);
+    CHECK(p6k_frame(zero, codes_at(0), 0x7F).refusal == P6K_UNSOUND_RELAY);
+    CHECK(p6k_reset(zero, 0).refusal == P6K_UNSOUND_RELAY);
 
     p6k_relay relay = p6k_fresh(settings_of(1, 1603)).relay;
     for (unsigned n = 0; n < 90; n++)
@@ -82,25 +85,26 @@ static int relays(void)
     p6k_codes wrong = codes_at(0);
     wrong.codes[5] = 1024;
     answer = p6k_frame(relay, wrong, 0xFF);
-    CHECK(answer.number == P6K_BAD_CODE && answer.output == 0 && memcmp(&answer.relay, &relay, sizeof relay) == 0);
+    CHECK(answer.refusal == P6K_BAD_CODE && answer.output == 0 && memcmp(&answer.relay, &relay, sizeof relay) == 0);
     answer = p6k_frame(relay, codes_at(90), 0xFF);
-    CHECK(answer.number == P6K_BAD_ENABLE && answer.output == 0 && memcmp(&answer.relay, &relay, sizeof relay) == 0);
+    CHECK(answer.refusal == P6K_BAD_ENABLE && answer.output == 0 && memcmp(&answer.relay, &relay, sizeof relay) == 0);
     for (int c = 0; c < 6; c++)
         CHECK(answer.amplitudes[c] == 0);
 
     p6k_reset_answer reset = p6k_reset(relay, 0x48);
-    CHECK(reset.number == P6K_BAD_MASK && memcmp(&reset.relay, &relay, sizeof relay) == 0);
+    CHECK(reset.refusal == P6K_BAD_MASK && memcmp(&reset.relay, &relay, sizeof relay) == 0);
     reset = p6k_reset(relay, 0x08);
-    CHECK(reset.number == P6K_ACCEPTED && !reset.relay.channels[3].over_latch && reset.relay.channels[3].over_run == 0);
+    CHECK(reset.refusal == P6K_ACCEPTED);
+    CHECK(!reset.relay.channels[3].over_latch && reset.relay.channels[3].over_run == 0);
     CHECK(reset.relay.channels[2].loss_latch && reset.relay.age == 72);
     CHECK(p6k_frame(reset.relay, codes_at(90), 0x7F).output == 0x37);
     return 0;
 }
 
 /* Refused: count 0, and what was lent is as it was. */
-static bool refused(p6k_answer answer, enum p6k_number number, const void *lent, const void *before, size_t size)
+static bool refused(p6k_answer answer, enum p6k_refusal refusal, const void *lent, const void *before, size_t size)
 {
-    return answer.number == number && answer.count == 0 && memcmp(lent, before, size) == 0;
+    return answer.refusal == refusal && answer.count == 0 && memcmp(lent, before, size) == 0;
 }
 
 static int captures(void)
@@ -115,7 +119,7 @@ static int captures(void)
     }
     memset(bytes, 0xEE, sizeof bytes);
     p6k_answer written = p6k_write(cells, CELLS, bytes, sizeof bytes);
-    CHECK(written.number == P6K_ACCEPTED && memcmp(bytes, "P6K\x14", 4) == 0 && bytes[written.count] == 0xEE);
+    CHECK(written.refusal == P6K_ACCEPTED && memcmp(bytes, "P6K\x14", 4) == 0 && bytes[written.count] == 0xEE);
     memcpy(before, bytes, sizeof bytes);
     CHECK(refused(p6k_write(cells, CELLS, bytes, written.count - 1), P6K_DOES_NOT_FIT, bytes, before, sizeof bytes));
     CHECK(refused(p6k_write(cells, CELLS - 1, bytes, sizeof bytes), P6K_WRONG_SHAPE, bytes, before, sizeof bytes));
@@ -125,10 +129,12 @@ static int captures(void)
 
     back[CELLS] = 0xEEEE;
     p6k_answer read = p6k_read(bytes, written.count, back, CELLS + 1);
-    CHECK(read.number == P6K_ACCEPTED && read.count == FRAMES && memcmp(cells, back, sizeof cells) == 0 && back[CELLS] == 0xEEEE);
+    CHECK(read.refusal == P6K_ACCEPTED && read.count == FRAMES);
+    CHECK(memcmp(cells, back, sizeof cells) == 0 && back[CELLS] == 0xEEEE);
     memcpy(old, back, sizeof back);
     CHECK(refused(p6k_read(bytes + 1, 5, back, CELLS), P6K_MARK_DIFFERS, back, old, sizeof back));
-    CHECK(refused(p6k_read((const uint8_t *)"P6K\x80\x00", 5, back, CELLS), P6K_BAD_SECOND_BYTE, back, old, sizeof back));
+    p6k_answer second = p6k_read((const uint8_t *)"P6K\x80\x00", 5, back, CELLS);
+    CHECK(refused(second, P6K_BAD_SECOND_BYTE, back, old, sizeof back));
     CHECK(refused(p6k_read(bytes, written.count - 1, back, CELLS), P6K_ENDS_EARLY, back, old, sizeof back));
     CHECK(refused(p6k_read((const uint8_t *)"P6K\x81\x20", 5, back, CELLS), P6K_OUT_OF_RANGE, back, old, sizeof back));
     CHECK(refused(p6k_read(bytes, written.count + 1, back, CELLS), P6K_BYTES_AFTER, back, old, sizeof back));
@@ -143,15 +149,16 @@ static int captures(void)
 
     cells[P6K_FRAME_CELLS * 11 + 3] = 1023;
     p6k_strongest_window strongest = p6k_strongest(cells, CELLS, 3);
-    /* Eight frames of the wave have the sum 40,164; frame 11 had -71 and now has 511. It first lies in the window from frame 4. */
-    CHECK(strongest.number == P6K_ACCEPTED && strongest.sum == 40164 - 71 * 71 + 511 * 511 && strongest.frame == 4);
+    /* Eight frames of the wave have the sum 40,164; frame 11 had -71 and now has 511. It first lies in the window from
+     * frame 4. */
+    CHECK(strongest.refusal == P6K_ACCEPTED && strongest.sum == 40164 - 71 * 71 + 511 * 511 && strongest.frame == 4);
     strongest = p6k_strongest(cells, CELLS, 6);
-    CHECK(strongest.number == P6K_WRONG_SHAPE && strongest.sum == 0 && strongest.frame == 0);
+    CHECK(strongest.refusal == P6K_WRONG_SHAPE && strongest.sum == 0 && strongest.frame == 0);
     strongest = p6k_strongest(cells, P6K_FRAME_CELLS * 7, 3);
-    CHECK(strongest.number == P6K_FEW_FRAMES && strongest.sum == 0 && strongest.frame == 0);
+    CHECK(strongest.refusal == P6K_FEW_FRAMES && strongest.sum == 0 && strongest.frame == 0);
     cells[6] = 0x80;
     strongest = p6k_strongest(cells, CELLS, 3);
-    CHECK(strongest.number == P6K_OUT_OF_RANGE && strongest.sum == 0 && strongest.frame == 0);
+    CHECK(strongest.refusal == P6K_OUT_OF_RANGE && strongest.sum == 0 && strongest.frame == 0);
     return 0;
 }
 

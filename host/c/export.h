@@ -1,18 +1,20 @@
 /* The proved six-channel phasor relay, for C: link target/staticlib/libexport.a, which `rt staticlib export` makes.
  *
- * Every function is total: its contract, proved, says the whole answer for whatever values it is handed, refusals included. An answer's
- * `number` is one of p6k_number; where several checks fail, the first in the order that the call names gives it.
+ * Every function is total: its contract, proved, says the whole answer for whatever values it is handed, refusals
+ * included. An answer's `refusal` is one of p6k_refusal; where several checks fail, the first in the order that the
+ * call names gives it.
  *
  * What the caller owes, since nothing checks it at run time and no promise holds without it:
- *  - a pointer with a length points to at least so many elements, is aligned for its type, and is not NULL, also where the length is 0;
+ *  - a pointer with a length points to at least so many elements, is aligned for its type, and is not NULL, also where
+ *    the length is 0;
  *  - what is lent for writing (a pointer without `const`) overlaps no other argument of the call;
  *  - a bool is 0 or 1: a relay that was read from elsewhere, byte by byte, has to be looked at first;
  *  - the program is compiled for x86-64 with the System V calling convention, as the archive is.
- * The functions keep nothing between calls, allocate nothing and may be called from several threads at once. They need memcpy and
- * memset of the C library.
+ * The functions keep nothing between calls, allocate nothing and may be called from several threads at once. Of the C
+ * library they need memcpy alone.
  *
- * This file is written by hand. c/calls.c checks sizes, places of fields and the numbers, c/stack.c the stack, and the tests each function's
- * answers. */
+ * This file is written by hand. c/calls.c checks sizes, places of fields and the numbers, c/stack.c the stack, and
+ * the tests each function's answers. */
 #ifndef EXPORT_H
 #define EXPORT_H
 
@@ -24,8 +26,8 @@
 extern "C" {
 #endif
 
-/* The number of an answer. */
-enum p6k_number {
+/* The refusal of an answer: the numbers of document 01's table. */
+enum p6k_refusal {
     P6K_ACCEPTED = 0,
     P6K_BAD_SETTING = 1,     /* a setting outside 1 to 10,700 */
     P6K_UNSOUND_RELAY = 2,   /* relay not sound */
@@ -47,17 +49,17 @@ enum p6k_number {
 #define P6K_WRITE_ROOM 53253   /* bytes that hold every capture */
 #define P6K_REPORT_ROOM 184332 /* bytes that hold every report */
 
-/* The stack that a call needs at most, in bytes, with arguments and answer that pass by value. Measured by c/stack.c: calls of every kind on
- * a painted stack; each is less than its number here, and the gate fails where one is not. A dynamic linker's first look-up of memcpy or
- * memset and what interrupts the call are not counted. */
+/* The stack that a call needs at most, in bytes, with arguments and answer that pass by value. Measured by c/stack.c:
+ * calls of every kind on a painted stack; none takes more than its number here, and the gate fails where one does. A
+ * dynamic linker's first look-up of memcpy and what interrupts the call are not counted. */
 #define P6K_FRESH_STACK 512
 #define P6K_FRAME_STACK 1536
 #define P6K_RESET_STACK 1024
-#define P6K_READ_STACK 256
+#define P6K_READ_STACK 512
 #define P6K_WRITE_STACK 256
 #define P6K_EXCERPT_STACK 256
 #define P6K_STRONGEST_STACK 256
-#define P6K_REPORT_STACK 59392
+#define P6K_REPORT_STACK 1536
 
 /* Channels 0, 1, 2 are voltages; 3, 4, 5 are currents. A voltage has no over run and no over latch: 0 and false. */
 typedef struct {
@@ -89,29 +91,29 @@ typedef struct {
 
 typedef struct {
     p6k_relay relay;
-    uint8_t number;
+    uint8_t refusal;
 } p6k_fresh_answer;
 
 typedef struct {
     p6k_relay relay;
-    uint8_t number;
+    uint8_t refusal;
     uint16_t amplitudes[6]; /* in sixteenths of a code */
     uint8_t output;         /* bit c: channel c has a latch on and is enabled in this frame */
 } p6k_frame_answer;
 
 typedef struct {
     p6k_relay relay;
-    uint8_t number;
+    uint8_t refusal;
 } p6k_reset_answer;
 
 /* count: frames for p6k_read, bytes for p6k_write. */
 typedef struct {
-    uint8_t number;
+    uint8_t refusal;
     size_t count;
 } p6k_answer;
 
 typedef struct {
-    uint8_t number;
+    uint8_t refusal;
     uint32_t sum;
     size_t frame;
 } p6k_strongest_window;
@@ -125,28 +127,31 @@ typedef struct {
 /* A fresh relay. Checks 1; refused: the all-zero relay. */
 p6k_fresh_answer p6k_fresh(p6k_settings settings);
 
-/* One frame. enable: bits 0 to 5 enable channels, bit 6 the device. Checks 2, 3, 4; refused: the relay as given, amplitudes and output 0. */
+/* One frame. enable: bits 0 to 5 enable channels, bit 6 the device. Checks 2, 3, 4; refused: the relay as given,
+ * amplitudes and output 0. */
 p6k_frame_answer p6k_frame(p6k_relay relay, p6k_codes codes, uint8_t enable);
 
 /* Clears runs and latches of the channels that mask's bits 0 to 5 name. Checks 2, 5; refused: the relay as given. */
 p6k_reset_answer p6k_reset(p6k_relay relay, uint8_t mask);
 
-/* Reads a capture into the front of the cells. Checks 6 to 10 byte by byte, first fault first, then 11; refused: count 0, the cells as lent. */
+/* Reads a capture into the front of the cells. Checks 6 to 10 byte by byte, first fault first, then 11; refused:
+ * count 0, the cells as lent. */
 p6k_answer p6k_read(const uint8_t *bytes, size_t bytes_length, uint16_t *cells, size_t cells_length);
 
 /* Writes cells as a capture into the front of the bytes. Checks 12, 9, 11; refused: count 0, the bytes as lent. */
 p6k_answer p6k_write(const uint16_t *cells, size_t cells_length, uint8_t *bytes, size_t bytes_length);
 
-/* The part of the cells from a frame on, for so many frames. It has no number: where frame + frames exceeds the frames, or the cells are no
- * multiple of seven, it is the empty part at the start, start 0 and length 0. */
+/* The part of the cells from a frame on, for so many frames. It has no refusal: where frame + frames exceeds the
+ * frames, or the cells are no multiple of seven, it is the empty part at the start, start 0 and length 0. */
 p6k_part p6k_excerpt(const uint16_t *cells, size_t cells_length, size_t frame, size_t frames);
 
-/* The largest sum of eight squared samples of successive frames of a channel, and the first frame where it occurs. Checks 12, 9, 13;
- * refused: sum and frame 0. */
+/* The largest sum of eight squared samples of successive frames of a channel, and the first frame where it occurs.
+ * Checks 12, 9, 13; refused: sum and frame 0. */
 p6k_strongest_window p6k_strongest(const uint16_t *cells, size_t cells_length, size_t channel);
 
-/* Puts the bench program's whole output for a capture at the front of the text and answers its length; of a refused capture that is the line
- * `refused N`. It has no number: where the text is shorter than P6K_REPORT_ROOM, the answer is 0 and the text is as lent. */
+/* Puts the bench program's whole output for a capture at the front of the text and answers its length; of a refused
+ * capture that is the line `refused N`. It has no refusal: where the text is shorter than P6K_REPORT_ROOM, the
+ * answer is 0 and the text is as lent. */
 size_t p6k_report(const uint8_t *capture, size_t capture_length, uint8_t *text, size_t text_length);
 
 #ifdef __cplusplus

@@ -1,6 +1,6 @@
-/* How much stack each call needs. It runs on a stack of its own that was painted before; the depth to which the paint is gone is what it
- * took. Calls of every kind are made, accepted and refused, the longest capture among them. It says the most that each took, and fails where
- * that is more than export.h says. */
+/* How much stack each call needs. It runs on a stack of its own that was painted before; the depth to which the
+ * paint is gone is what it took. Calls of every kind are made, accepted and refused, the longest capture among them.
+ * It says the most that each took, and fails where that is more than export.h says. */
 #define _XOPEN_SOURCE 700 /* for ucontext.h */
 #include "export.h"
 
@@ -80,10 +80,10 @@ static const struct {
     {"known", known, 10256},
 };
 static size_t deepest[CALLS];
-static unsigned numbers[P6K_FEW_FRAMES + 1];
+static unsigned refusals[P6K_FEW_FRAMES + 1];
 
-/* Two paints, since a byte that was written may be the paint of one. The call goes first on the program's own stack, for a dynamic linker's
- * look-up. */
+/* Two paints, since a byte that was written may be the paint of one. The call goes first on the program's own stack,
+ * for a dynamic linker's look-up. */
 static void measure(int k)
 {
     const uint8_t paints[2] = {0xA5, 0x5A};
@@ -98,9 +98,9 @@ static void measure(int k)
 static void frame_and_reset(void)
 {
     measure(FRAME);
-    numbers[framed.number]++;
+    refusals[framed.refusal]++;
     measure(RESET);
-    numbers[cleared.number]++;
+    refusals[cleared.refusal]++;
 }
 
 /* Relays that are fresh, settled, tripped and not sound, and what refuses a frame or a reset. */
@@ -129,11 +129,11 @@ static void relays(void)
     frame_and_reset();
     settings.pickup[2] = 0;
     measure(FRESH);
-    numbers[made.number]++;
+    refusals[made.refusal]++;
 }
 
-/* A capture that was written: whole, a byte long, a byte short, and damaged in its mark, its count and its first change; with all room and with
- * none. */
+/* A capture that was written: whole, a byte long, a byte short, and damaged in its mark, its count and its first
+ * change; with all room and with none. */
 static void read_and_report(void)
 {
     const size_t place[4] = {0, 2, 3, 6};
@@ -149,7 +149,7 @@ static void read_and_report(void)
             text_length = room ? P6K_REPORT_ROOM : 0;
             measure(REPORT);
             measure(READ);
-            numbers[taken.number]++;
+            refusals[taken.refusal]++;
         }
         if (k >= 3)
             bytes[place[k - 3]] = old;
@@ -168,7 +168,7 @@ static void captures(void)
             cells[0] = wrong ? 1024 : 1023;
             for (channel = 0; channel < 7; channel++) {
                 measure(STRONGEST);
-                numbers[window.number]++;
+                refusals[window.refusal]++;
             }
             for (first = 0; first < 12; first++) {
                 count = 11 - first;
@@ -176,11 +176,11 @@ static void captures(void)
             }
             bytes_length = 3;
             measure(WRITE);
-            numbers[written.number]++;
+            refusals[written.refusal]++;
             bytes_length = P6K_WRITE_ROOM;
             measure(WRITE);
-            numbers[written.number]++;
-            if (written.number == P6K_ACCEPTED)
+            refusals[written.refusal]++;
+            if (written.refusal == P6K_ACCEPTED)
                 read_and_report();
         }
     }
@@ -197,13 +197,14 @@ int main(void)
         failed = 1;
     }
     for (int n = P6K_ACCEPTED; n <= P6K_FEW_FRAMES; n++)
-        if (numbers[n] == 0) {
+        if (refusals[n] == 0) {
             printf("failed: no call was answered with %d\n", n);
             failed = 1;
         }
     for (int k = 0; k < CALLS; k++)
         if (deepest[k] > row[k].most) {
-            printf("failed: %s took %zu bytes of stack, and no more than %zu are said\n", row[k].name, deepest[k], row[k].most);
+            printf("failed: %s took %zu bytes of stack, and no more than %zu are said\n", row[k].name, deepest[k],
+                   row[k].most);
             failed = 1;
         }
     printf("c/stack.c:");

@@ -1,11 +1,12 @@
 //! The proved relay for Rust programs: what `libexport.a` exports, each function in a safe wrapper.
 //!
-//! Nothing checks these declarations against the Rattle source but the tests beside them (`tests/usage.rs` holds sizes and places of
-//! fields, `tests/calls.rs` and `tests/captures.rs` hold every answer to a second implementation). Safe Rust meets all that the C header
-//! asks of a caller: slices have true lengths, lent buffers do not overlap, a `bool` is 0 or 1.
+//! Nothing checks these declarations against the Rattle source but the tests beside them (`tests/usage.rs` holds sizes
+//! and places of fields, `tests/calls.rs` and `tests/captures.rs` hold every answer to a second implementation). Safe
+//! Rust meets all that the C header asks of a caller: slices have true lengths, lent buffers do not overlap, a `bool`
+//! is 0 or 1.
 
-/// The numbers of an answer, by the words of document 01's table of refusals.
-pub mod number {
+/// The refusals of an answer, numbered and worded as in document 01's table.
+pub mod refusal {
     pub const ACCEPTED: u8 = 0;
     /// A setting outside 1 to 10,700.
     pub const BAD_SETTING: u8 = 1;
@@ -76,19 +77,19 @@ pub struct Relay {
     pub settings: Settings,
 }
 
-/// `number` is one of `number`, here and in the other answers.
+/// `refusal` is one of `refusal`, here and in the other answers.
 #[repr(C)]
 #[derive(Clone, Copy, Debug, PartialEq, Eq)]
 pub struct FreshAnswer {
     pub relay: Relay,
-    pub number: u8,
+    pub refusal: u8,
 }
 
 #[repr(C)]
 #[derive(Clone, Copy, Debug, PartialEq, Eq)]
 pub struct FrameAnswer {
     pub relay: Relay,
-    pub number: u8,
+    pub refusal: u8,
     pub amplitudes: [u16; 6],
     pub output: u8,
 }
@@ -97,14 +98,14 @@ pub struct FrameAnswer {
 #[derive(Clone, Copy, Debug, PartialEq, Eq)]
 pub struct ResetAnswer {
     pub relay: Relay,
-    pub number: u8,
+    pub refusal: u8,
 }
 
 /// `count` is in frames where the call made frames and in bytes where it made bytes.
 #[repr(C)]
 #[derive(Clone, Copy, Debug, PartialEq, Eq)]
 pub struct Answer {
-    pub number: u8,
+    pub refusal: u8,
     pub count: usize,
 }
 
@@ -112,13 +113,13 @@ pub struct Answer {
 #[repr(C)]
 #[derive(Clone, Copy, Debug, PartialEq, Eq)]
 pub struct StrongestWindow {
-    pub number: u8,
+    pub refusal: u8,
     pub sum: u32,
     pub frame: usize,
 }
 
-/// The functions as the archive has them. An array does not pass the C boundary by value, nor does a part of a slice come back through
-/// it: a struct that holds the array, and start and length, stand in for them.
+/// The functions as the archive has them. An array does not pass the C boundary by value, nor does a part of a slice
+/// come back through it: a struct that holds the array, and start and length, stand in for them.
 mod raw {
     use super::*;
 
@@ -172,18 +173,20 @@ pub fn write(cells: &[u16], bytes: &mut [u8]) -> Answer {
     unsafe { raw::p6k_write(cells.as_ptr(), cells.len(), bytes.as_mut_ptr(), bytes.len()) }
 }
 
-/// The caller's own cells from a frame on, for so many frames; the empty part at the start where they do not lie within the cells.
+/// The caller's own cells from a frame on, for so many frames; the empty part at the start where they do not lie within
+/// the cells.
 pub fn excerpt(cells: &[u16], frame: usize, frames: usize) -> &[u16] {
     let part = unsafe { raw::p6k_excerpt(cells.as_ptr(), cells.len(), frame, frames) };
     &cells[part.start..part.start + part.length]
 }
 
+/// The strongest window of a channel.
 pub fn strongest(cells: &[u16], channel: usize) -> StrongestWindow {
     unsafe { raw::p6k_strongest(cells.as_ptr(), cells.len(), channel) }
 }
 
-/// The bench program's whole output for a capture, into the front of the text; the answer is its length in bytes. A text shorter than
-/// `REPORT_ROOM` is left as it was, and the answer is 0.
+/// The bench program's whole output for a capture, into the front of the text; the answer is its length in bytes. A
+/// text shorter than `REPORT_ROOM` is left as it was, and the answer is 0.
 pub fn report(capture: &[u8], text: &mut [u8]) -> usize {
     unsafe { raw::p6k_report(capture.as_ptr(), capture.len(), text.as_mut_ptr(), text.len()) }
 }

@@ -7,12 +7,12 @@ mod support;
 use reference::prng::Prng;
 use reference::relay::{is_enabled, FIRST_CURRENT, FULL_AGE, HIGHEST_LEVEL};
 use reference::{amplitude, Call, Exact, History, Latch, Settings};
-use support::{Flags, Numbers};
+use support::{Flags, Refusals};
 
 /// What the calls met, so that a run that saw little fails.
 #[derive(Default)]
 struct Seen {
-    numbers: Numbers,
+    refusals: Refusals,
     calls: u64,
     counted: u64,
     amplitudes: u64,
@@ -140,24 +140,24 @@ fn list(prng: &mut Prng, seen: &mut Seen, by_history: bool) {
     }
     let expected = reference::fresh(settings);
     let made = host::Relay::fresh(settings_of(&settings));
-    assert_eq!((made.number, made.relay), (expected.number, relay_of(&expected.relay)), "fresh {settings:?}");
-    seen.numbers.count(made.number);
+    assert_eq!((made.refusal, made.relay), (expected.number, relay_of(&expected.relay)), "fresh {settings:?}");
+    seen.refusals.count(made.refusal);
     seen.calls += 1;
 
     // After refusal 1 the all-zero relay is handed on: each call is refused by 2.
-    let length = if made.number == 0 { prng.below(500) } else { 10 };
+    let length = if made.refusal == 0 { prng.below(500) } else { 10 };
     let mut step = Step { ours: made.relay, theirs: expected.relay, shown: 0, hidden: 0 };
     let mut calls = Vec::new();
     let mut answers = Vec::new();
     for _ in 0..length {
         let call = source.call(prng);
         let output = step.make(call, seen);
-        if by_history && made.number == 0 {
+        if by_history && made.refusal == 0 {
             calls.push(call);
             answers.push((output, step.ours));
         }
     }
-    if by_history && made.number == 0 {
+    if by_history && made.refusal == 0 {
         hold_to_history(settings, &calls, &answers);
         seen.by_history += 1;
     }
@@ -176,33 +176,33 @@ impl Step {
     /// Makes the call on both relays and compares all that comes back; answers the output byte, 0 for a reset.
     fn make(&mut self, call: Call, seen: &mut Seen) -> u8 {
         let before = self.theirs;
-        let (number, output) = match call {
+        let (refusal, output) = match call {
             Call::Frame { codes, enable } => {
                 let expected = reference::frame(self.theirs, codes, enable);
                 let answer = self.ours.frame(codes, enable);
                 compare_frame(&answer, &expected, &before, call);
                 self.theirs = expected.relay;
                 self.ours = answer.relay;
-                if answer.number == 0 {
+                if answer.refusal == 0 {
                     self.look_at(&answer, before.age == FULL_AGE, enable, seen);
                 }
-                (answer.number, answer.output)
+                (answer.refusal, answer.output)
             }
             Call::Reset { mask } => {
                 let expected = reference::reset(self.theirs, mask);
                 let answer = self.ours.reset(mask);
                 assert_eq!(
-                    (answer.number, answer.relay),
+                    (answer.refusal, answer.relay),
                     (expected.number, relay_of(&expected.relay)),
                     "{call:?} on {before:?}"
                 );
                 self.theirs = expected.relay;
                 self.ours = answer.relay;
-                (answer.number, 0)
+                (answer.refusal, 0)
             }
         };
         seen.calls += 1;
-        seen.numbers.count(number);
+        seen.refusals.count(refusal);
         for (old, new) in before.channels.iter().zip(&self.theirs.channels) {
             seen.trips[0] += u64::from(!old.loss_latch && new.loss_latch);
             seen.trips[1] += u64::from(!old.over_latch && new.over_latch);
@@ -231,7 +231,7 @@ impl Step {
 
 fn compare_frame(answer: &host::FrameAnswer, expected: &reference::Framed, before: &reference::Relay, call: Call) {
     assert_eq!(
-        (answer.number, answer.amplitudes, answer.output, answer.relay),
+        (answer.refusal, answer.amplitudes, answer.output, answer.relay),
         (expected.number, expected.amplitudes, expected.output, relay_of(&expected.relay)),
         "{call:?} on {before:?}"
     );
@@ -295,7 +295,7 @@ fn main() {
         handed_in(&mut prng, &mut seen);
     }
     println!("calls: {in_lists} in {lists} lists, {made_up} on relays that a caller made up, seed {}: all agree", flags.seed);
-    seen.numbers.show(1..=5);
+    seen.refusals.show(1..=5);
     println!("  counted frames {}, amplitudes within 2 of the exact one {}", seen.counted, seen.amplitudes);
     println!(
         "  trips in the lists: loss {}, over {}; latches cleared by a reset {}; output bits that came back with the enable {}",

@@ -4,18 +4,18 @@
 
 mod support;
 
-use host::number;
+use host::refusal;
 use reference::capture::{number_bytes, CELLS, LONGEST, MARK, MOST_FRAMES};
 use reference::prng::Prng;
-use support::{Flags, Numbers};
+use support::{Flags, Refusals};
 
 /// What cells and bytes hold before a call, to see that the rest is untouched.
 const OLD: u8 = 0xEE;
 
 #[derive(Default)]
 struct Seen {
-    numbers: Numbers,
-    into_nothing: Numbers,
+    refusals: Refusals,
+    into_nothing: Refusals,
     valid: u64,
     cut: u64,
     damaged: u64,
@@ -57,23 +57,23 @@ fn read(bytes: &[u8], room: usize, seen: &mut Seen) -> host::Answer {
     let mut theirs = ours.clone();
     let answer = host::read(bytes, &mut ours);
     let expected = reference::read(bytes, &mut theirs);
-    assert_eq!((answer.number, answer.count), (expected.number, expected.count), "{bytes:02X?} into {room} cells");
+    assert_eq!((answer.refusal, answer.count), (expected.number, expected.count), "{bytes:02X?} into {room} cells");
     assert_eq!(ours, theirs, "{bytes:02X?} into {room} cells");
-    seen.numbers.count(answer.number);
+    seen.refusals.count(answer.refusal);
     answer
 }
 
-/// Into all the room that it can need, and into no cells at all: 6 to 10 come before 11, so the number is the same, and a right capture that has a
+/// Into all the room that it can need, and into no cells at all: 6 to 10 come before 11, so the refusal is the same, and a right capture that has a
 /// frame is 11. Nothing is written before or behind the place of the cells.
 fn read_with_and_without_room(bytes: &[u8], seen: &mut Seen) -> host::Answer {
     let answer = read(bytes, bytes.len() * CELLS, seen);
-    let number = if answer.count > 0 { number::DOES_NOT_FIT } else { answer.number };
+    let expected = if answer.count > 0 { refusal::DOES_NOT_FIT } else { answer.refusal };
     let mut around = [u16::from(OLD); 2 * CELLS];
     let without = host::read(bytes, &mut around[CELLS..CELLS]);
-    assert_eq!(without, host::Answer { number, count: 0 }, "{bytes:02X?} into no cells");
+    assert_eq!(without, host::Answer { refusal: expected, count: 0 }, "{bytes:02X?} into no cells");
     assert_eq!(around, [u16::from(OLD); 2 * CELLS], "{bytes:02X?} into no cells");
-    assert_eq!(reference::read(bytes, &mut []).number, number, "{bytes:02X?} into no cells");
-    seen.into_nothing.count(number);
+    assert_eq!(reference::read(bytes, &mut []).number, expected, "{bytes:02X?} into no cells");
+    seen.into_nothing.count(expected);
     answer
 }
 
@@ -82,22 +82,22 @@ fn write(cells: &[u16], room: usize, seen: &mut Seen) -> u8 {
     let mut theirs = ours.clone();
     let answer = host::write(cells, &mut ours);
     let expected = reference::write(cells, &mut theirs);
-    assert_eq!((answer.number, answer.count), (expected.number, expected.count), "{cells:?} into {room} bytes");
+    assert_eq!((answer.refusal, answer.count), (expected.number, expected.count), "{cells:?} into {room} bytes");
     assert_eq!(ours, theirs, "{cells:?} into {room} bytes");
-    seen.numbers.count(answer.number);
+    seen.refusals.count(answer.refusal);
     seen.written += 1;
-    answer.number
+    answer.refusal
 }
 
 fn strongest(cells: &[u16], channel: usize, seen: &mut Seen) {
     let answer = host::strongest(cells, channel);
     let expected = reference::strongest(cells, channel);
     assert_eq!(
-        (answer.number, answer.sum, answer.frame),
+        (answer.refusal, answer.sum, answer.frame),
         (expected.number, expected.sum, expected.frame),
         "channel {channel} of {cells:?}"
     );
-    seen.numbers.count(answer.number);
+    seen.refusals.count(answer.refusal);
     seen.strongest += 1;
 }
 
@@ -128,15 +128,15 @@ fn valid(frames: usize, text: &mut [u8], prng: &mut Prng, seen: &mut Seen) -> Ve
     let bytes = capture(&cells);
     seen.valid += 1;
     for room in [cells.len(), cells.len() + prng.below(9) as usize] {
-        assert_eq!(read(&bytes, room, seen).number, number::ACCEPTED);
+        assert_eq!(read(&bytes, room, seen).refusal, refusal::ACCEPTED);
     }
-    assert_eq!(read_with_and_without_room(&bytes, seen), host::Answer { number: number::ACCEPTED, count: frames });
-    assert_eq!(write(&cells, bytes.len(), seen), number::ACCEPTED);
+    assert_eq!(read_with_and_without_room(&bytes, seen), host::Answer { refusal: refusal::ACCEPTED, count: frames });
+    assert_eq!(write(&cells, bytes.len(), seen), refusal::ACCEPTED);
     write(&cells, bytes.len() + prng.below(9) as usize, seen);
     if frames > 0 {
-        assert_eq!(read(&bytes, cells.len() - 1 - prng.below(7) as usize, seen).number, number::DOES_NOT_FIT);
+        assert_eq!(read(&bytes, cells.len() - 1 - prng.below(7) as usize, seen).refusal, refusal::DOES_NOT_FIT);
     }
-    assert_eq!(write(&cells, bytes.len() - 1 - prng.below(3) as usize, seen), number::DOES_NOT_FIT);
+    assert_eq!(write(&cells, bytes.len() - 1 - prng.below(3) as usize, seen), refusal::DOES_NOT_FIT);
     report(&bytes, text, seen);
     bytes
 }
@@ -144,7 +144,7 @@ fn valid(frames: usize, text: &mut [u8], prng: &mut Prng, seen: &mut Seen) -> Ve
 /// A capture cut at every place, damaged by one byte at every place, and with a byte behind it.
 fn cut_and_damaged(bytes: &[u8], text: &mut [u8], prng: &mut Prng, seen: &mut Seen) {
     for place in 0..bytes.len() {
-        assert_ne!(read_with_and_without_room(&bytes[..place], seen).number, number::ACCEPTED);
+        assert_ne!(read_with_and_without_room(&bytes[..place], seen).refusal, refusal::ACCEPTED);
         seen.cut += 1;
         let mut damaged = bytes.to_vec();
         match prng.below(6) {
@@ -163,7 +163,7 @@ fn cut_and_damaged(bytes: &[u8], text: &mut [u8], prng: &mut Prng, seen: &mut Se
     }
     let mut tailed = bytes.to_vec();
     tailed.push(prng.below(256) as u8);
-    assert_eq!(read_with_and_without_room(&tailed, seen).number, number::BYTES_AFTER);
+    assert_eq!(read_with_and_without_room(&tailed, seen).refusal, refusal::BYTES_AFTER);
 }
 
 /// Cells that may be of a wrong shape or out of range, to write and to search, and parts of them.
@@ -258,7 +258,7 @@ fn main() {
         "captures: {} valid, {} cut, {} damaged by one byte, {} writings, {} excerpts, {} strongest windows, {} reports, seed {}: all agree",
         seen.valid, seen.cut, seen.damaged, seen.written, seen.excerpts, seen.strongest, seen.reports, flags.seed
     );
-    seen.numbers.show(6..=13);
+    seen.refusals.show(6..=13);
     println!("  the same captures, valid, cut and damaged, into no cells at all:");
     seen.into_nothing.show(6..=11);
     assert!(seen.valid + seen.cut + seen.damaged >= 20_000 && seen.excerpts >= 10_000 && seen.reports >= 1_000);

@@ -1,7 +1,7 @@
 //! Uses the archive through the safe wrapper, as a program of the customer's would, and holds the declared structs to the sizes and
 //! places written down here.
 
-use host::{excerpt, number, read, report, strongest, write};
+use host::{excerpt, read, refusal, report, strongest, write};
 use host::{Channel, FrameAnswer, FreshAnswer, Relay, ResetAnswer, Settings, StrongestWindow};
 use host::{FRAME_CELLS, READ_ROOM, REPORT_ROOM, WRITE_ROOM};
 use std::mem::{align_of, offset_of, size_of};
@@ -13,9 +13,9 @@ fn layout() {
     assert_eq!((offset_of!(Channel, loss_latch), offset_of!(Channel, over_latch)), (18, 19));
     assert_eq!((size_of::<Settings>(), offset_of!(Settings, pickup)), (18, 12));
     assert_eq!((size_of::<Relay>(), offset_of!(Relay, age), offset_of!(Relay, slot), offset_of!(Relay, settings)), (140, 120, 121, 122));
-    assert_eq!((size_of::<FreshAnswer>(), offset_of!(FreshAnswer, number)), (142, 140));
-    assert_eq!((size_of::<ResetAnswer>(), offset_of!(ResetAnswer, number)), (142, 140));
-    assert_eq!((size_of::<FrameAnswer>(), offset_of!(FrameAnswer, number)), (156, 140));
+    assert_eq!((size_of::<FreshAnswer>(), offset_of!(FreshAnswer, refusal)), (142, 140));
+    assert_eq!((size_of::<ResetAnswer>(), offset_of!(ResetAnswer, refusal)), (142, 140));
+    assert_eq!((size_of::<FrameAnswer>(), offset_of!(FrameAnswer, refusal)), (156, 140));
     assert_eq!((offset_of!(FrameAnswer, amplitudes), offset_of!(FrameAnswer, output)), (142, 154));
     assert_eq!((size_of::<host::Answer>(), offset_of!(host::Answer, count)), (16, 8));
     assert_eq!((size_of::<StrongestWindow>(), offset_of!(StrongestWindow, sum), offset_of!(StrongestWindow, frame)), (16, 4, 8));
@@ -32,15 +32,15 @@ fn a_fault_is_seen_and_reset() {
     for n in 0..100 {
         let codes = [0, 1, 2, 3, 4, 5].map(|c| if c == 4 { fault[n % 8] } else { 512 + (fault[n % 8] - 512) / 4 });
         let answer = relay.frame(codes.map(|code: i16| code as u16), 0x7F);
-        assert_eq!(answer.number, number::ACCEPTED);
+        assert_eq!(answer.refusal, refusal::ACCEPTED);
         relay = answer.relay;
         outputs.push(answer.output);
     }
     assert_eq!(outputs.iter().position(|&output| output != 0), Some(75));
     assert_eq!(outputs[99], 0x10);
     let answer = relay.reset(0x10);
-    assert_eq!((answer.number, answer.relay.channels[4].over_latch), (number::ACCEPTED, false));
-    assert_eq!(answer.relay.reset(0xC0).number, number::BAD_MASK);
+    assert_eq!((answer.refusal, answer.relay.channels[4].over_latch), (refusal::ACCEPTED, false));
+    assert_eq!(answer.relay.reset(0xC0).refusal, refusal::BAD_MASK);
 }
 
 #[test]
@@ -48,12 +48,12 @@ fn a_recording_is_written_read_searched_and_reported() {
     let cells: Vec<u16> = (0..30).flat_map(|n| [512, 512, 512, if n == 20 { 0 } else { 600 }, 512, 512, 0x7F]).collect();
     let mut bytes = [0; WRITE_ROOM];
     let written = write(&cells, &mut bytes);
-    assert_eq!(written.number, number::ACCEPTED);
+    assert_eq!(written.refusal, refusal::ACCEPTED);
     let mut back = vec![0; cells.len()];
     let answer = read(&bytes[..written.count], &mut back);
-    assert_eq!((answer.number, answer.count), (number::ACCEPTED, 30));
+    assert_eq!((answer.refusal, answer.count), (refusal::ACCEPTED, 30));
     assert_eq!(back, cells);
-    assert_eq!(strongest(&cells, 3), StrongestWindow { number: number::ACCEPTED, sum: 7 * 88 * 88 + 512 * 512, frame: 13 });
+    assert_eq!(strongest(&cells, 3), StrongestWindow { refusal: refusal::ACCEPTED, sum: 7 * 88 * 88 + 512 * 512, frame: 13 });
     assert_eq!(excerpt(&cells, 20, 1), [512, 512, 512, 0, 512, 512, 0x7F]);
     let mut text = vec![0; REPORT_ROOM];
     let length = report(&bytes[..written.count], &mut text);
@@ -67,11 +67,11 @@ fn a_recording_is_written_read_searched_and_reported() {
 fn room_for_the_longest_capture() {
     let cells: Vec<u16> = (0..READ_ROOM).map(|i| if i % FRAME_CELLS == 6 { 0x7F } else { 1023 * ((i / FRAME_CELLS + 1) % 2) as u16 }).collect();
     let mut bytes = [0; WRITE_ROOM];
-    assert_eq!(write(&cells, &mut bytes[..WRITE_ROOM - 1]), host::Answer { number: number::DOES_NOT_FIT, count: 0 });
-    assert_eq!(write(&cells, &mut bytes), host::Answer { number: number::ACCEPTED, count: WRITE_ROOM });
+    assert_eq!(write(&cells, &mut bytes[..WRITE_ROOM - 1]), host::Answer { refusal: refusal::DOES_NOT_FIT, count: 0 });
+    assert_eq!(write(&cells, &mut bytes), host::Answer { refusal: refusal::ACCEPTED, count: WRITE_ROOM });
     let mut back = vec![0; READ_ROOM];
-    assert_eq!(read(&bytes, &mut back[..READ_ROOM - 1]), host::Answer { number: number::DOES_NOT_FIT, count: 0 });
-    assert_eq!(read(&bytes, &mut back), host::Answer { number: number::ACCEPTED, count: READ_ROOM / FRAME_CELLS });
+    assert_eq!(read(&bytes, &mut back[..READ_ROOM - 1]), host::Answer { refusal: refusal::DOES_NOT_FIT, count: 0 });
+    assert_eq!(read(&bytes, &mut back), host::Answer { refusal: refusal::ACCEPTED, count: READ_ROOM / FRAME_CELLS });
     assert_eq!(back, cells);
 }
 
@@ -80,9 +80,9 @@ fn room_for_the_longest_capture() {
 fn empty_slices() {
     let mut four = [0; 4];
     assert_eq!(write(&[], &mut four).count, 4);
-    assert_eq!(read(&four, &mut []), host::Answer { number: number::ACCEPTED, count: 0 });
-    assert_eq!(read(&[], &mut []).number, number::ENDS_EARLY);
-    assert_eq!(write(&[], &mut []).number, number::DOES_NOT_FIT);
-    assert_eq!(strongest(&[], 0).number, number::FEW_FRAMES);
+    assert_eq!(read(&four, &mut []), host::Answer { refusal: refusal::ACCEPTED, count: 0 });
+    assert_eq!(read(&[], &mut []).refusal, refusal::ENDS_EARLY);
+    assert_eq!(write(&[], &mut []).refusal, refusal::DOES_NOT_FIT);
+    assert_eq!(strongest(&[], 0).refusal, refusal::FEW_FRAMES);
     assert!(excerpt(&[], 0, 0).is_empty());
 }

@@ -2,13 +2,14 @@
 // stored output was made by a second implementation.
 use libc::STDOUT_FILENO;
 
+// One capture's name and its report.
 fn show(path: &[u8]) {
     let fd = os::open_read(path);
     if fd < 0 {
         os::fail(path);
         return;
     }
-    let mut input = [0u8; 53254];
+    let mut input = [0u8; report::INPUT];
     let n = io::read_full(fd, &mut input);
     libc::close(fd);
     io::write_all(STDOUT_FILENO, path);
@@ -18,6 +19,7 @@ fn show(path: &[u8]) {
     io::write_all(STDOUT_FILENO, &text[..m]);
 }
 
+// Levels, latches, refusals, and the longest capture.
 fn main() {
     show(b"level-3412.p6k");
     show(b"level-3413.p6k");

@@ -10,9 +10,9 @@ use mir.Syntax.{w64}
 use mir.Val.{Fits}
 use borrow.Rule.Slice.Shared.{bySize}
 use borrow.Author.Tests.{le-leb, lt-leb, leb-true, eq-eqb, ne-eqb}
-use Rattle.capture.specs.Frames.{wholeFrames, framesIn}
+use Rattle.frames.specs.Cells.{wholeFrames, framesIn}
 use Rattle.cells.specs.declared.Part.{Part}
-use Rattle.cells.specs.Excerpt.{within, placeOf, Excerpt}
+use Rattle.cells.specs.Excerpt.{placeOf, Excerpt}
 
 module _ (cells : List ℕ) (f n : ℕ) where
   abbrev nothing : Part
@@ -22,7 +22,7 @@ module _ (cells : List ℕ) (f n : ℕ) where
   place-shape h = rw (ne-eqb (length cells % 7) 0 h)
 
   module _ (w : length cells % 7 ≡ 0) where
-    past : length cells / 7 < f + n → nothing ≡ placeOf cells f n
+    pub past : length cells / 7 < f + n → nothing ≡ placeOf cells f n
     past h = rw (eq-eqb (length cells % 7) 0 w, lt-leb (f + n) (length cells / 7) h)
 
     pub place-start : length cells / 7 < f → nothing ≡ placeOf cells f n
@@ -54,7 +54,8 @@ module _ (cells : List ℕ) (f n : ℕ) (part : Part) (e : part ≡ placeOf cell
     start-fits = record { fits = omega (arith, part-inside) }
 
   pub excerpt-is : (place : ℕ × ℕ)
-      → Excerpt cells place f n (take (part .start + part .length - part .start) (drop (part .start) cells)) (place .0, bySize 2 (part .start) (place .1))
+      → Excerpt cells place f n (take (part .start + part .length - part .start) (drop (part .start) cells))
+      (place .0, bySize 2 (part .start) (place .1))
   excerpt-is place =
       let g : part .start + part .length - part .start ≡ part .length = omega arith in
       record { values = rw g (rw e); block = refl; offset = rw e (omega arith) }

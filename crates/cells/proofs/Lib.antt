@@ -1,4 +1,5 @@
 pub mod Excerpts
 pub mod Windows
 pub mod Laws
+pub mod Computed
 pub mod Calls

@@ -1,11 +1,11 @@
--- Document 01, "The capture": an excerpt. Rests on the capture's Frames.
+-- Document 01, "The capture": an excerpt. Rests on frames.
 use Prim.Native.Nat.{ℕ, _+_, _*_}
 use mathlib.Core.Path.{_≡_}
 use mathlib.Core.Bool.{Bool, cond, _&&_}
 use mathlib.Core.List.{List}
 use lib.ListN.{take, drop}
 use lib.Dec.{leb}
-use Rattle.capture.specs.Frames.{wholeFrames, framesIn}
+use Rattle.frames.specs.Cells.{wholeFrames, framesIn}
 use Rattle.cells.specs.declared.Part.{Part}
 
 -- "if f + n exceeds the frames, or the cells are no multiple of seven, it is the empty part at the start"

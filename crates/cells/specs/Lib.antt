@@ -1,3 +1,3 @@
 pub mod Excerpt
 pub mod Strongest
-pub mod Steps
+pub mod Internal

@@ -1,11 +1,12 @@
-// Parts of frames in memory. The entry points are `excerpt` and `strongest`.
+// Parts of frames in memory. The entry points are `excerpt` and `strongest`; frames checks the cells.
 ghost use mathlib.Core.Path.{_≡_};
-ghost use mathlib.Core.Bool.{not};
-ghost use Prim.Native.Nat.{_+_, _-_, _<_, _≤_};
-ghost use Rattle.capture.specs.Frames.{codeLimit, limit, inRange, framesIn};
+ghost use Prim.Native.Nat.{_+_, _<_, _≤_};
+ghost use Rattle.frames.specs.Codes.{codeLimit, sampleOf};
+ghost use Rattle.frames.specs.Cells.{framesIn};
 ghost use Rattle.cells.specs.Excerpt.{placeOf, Excerpt};
-ghost use Rattle.cells.specs.Strongest.{sample, squared, channelCodes, windowSum, window, strongerOf, strongestUpTo, strongestOf};
-ghost use Rattle.cells.specs.Steps.{ChannelRight};
+ghost use Rattle.cells.specs.Strongest.{squared, codesOf, windowSum, windowFound};
+ghost use Rattle.cells.specs.Strongest.{strongerOf, strongestIn, strongestOf};
+ghost use Rattle.cells.specs.Internal.{ChannelRight, mostSquare};
 
 // A part of the caller's cells, counted in cells: the first of them, and how many there are.
 #[repr(C)]
@@ -55,60 +56,35 @@ pub fn excerpt(cells: &[u16], f: usize, n: usize) -> &[u16]
     &cells[start..end]
 }
 
-// The number of a refusal, 0 where the call is accepted; the largest sum, and the first frame of the first window
-// that has it.
+// The refusal, 0 where the call is accepted; the largest sum, and the first frame of the first window that has it.
 #[repr(C)]
 pub struct StrongestWindow {
-    pub number: u8,
+    pub refusal: u8,
     pub sum: u32,
     pub frame: usize,
 }
 
-fn no_window(number: u8) -> StrongestWindow
-    ensures { λ r. ⌜ r ≡ window number 0 0 ⌝ }
+// The answer of a refused call.
+fn no_window(refusal: u8) -> StrongestWindow
+    ensures { λ r. ⌜ r ≡ windowFound refusal 0 0 ⌝ }
 {
     StrongestWindow {
-        number,
+        refusal,
         sum: 0,
         frame: 0,
     }
 }
 
-// What cell i must be below.
-fn limit_at(i: usize) -> u16
-    ensures { λ r. ⌜ r ≡ limit i ⌝ }
-{
-    if i % 7 == 6 {
-        capture::ENABLE_LIMIT
-    } else {
-        capture::CODE_LIMIT
-    }
-}
-
-// Whether a cell is out of range.
-fn out_of_range(cells: &[u16]) -> bool
-    ensures { λ r. ⌜ r ≡ not (inRange 0 (now (cells .entry))) ⌝ }
-{
-    let mut i: usize = 0;
-    while i < cells.len() {
-        if limit_at(i) <= cells[i] {
-            return true;
-        }
-        i += 1;
-    }
-    false
-}
-
 // The square of the sample of a code.
 fn square_of(code: u16) -> u32
     requires { ⌜ code < codeLimit ⌝ }
-    ensures { λ r. ⌜ (r ≡ squared (sample code)) × (r ≤ 262144) ⌝ }
+    ensures { λ r. ⌜ (r ≡ squared (sampleOf code)) × (r ≤ mostSquare) ⌝ }
 {
-    if code < 512 {
-        let below = (512 - code) as u32;
+    if code < frames::MIDDLE_CODE {
+        let below = (frames::MIDDLE_CODE - code) as u32;
         return below * below;
     }
-    let above = (code - 512) as u32;
+    let above = (code - frames::MIDDLE_CODE) as u32;
     above * above
 }
 
@@ -116,7 +92,7 @@ fn square_of(code: u16) -> u32
 fn window_sum(cells: &[u16], channel: usize, f: usize) -> u32
     requires { ⌜ ChannelRight (now cells) channel ⌝ }
     requires { ⌜ f + 8 ≤ framesIn (now cells) ⌝ }
-    ensures { λ r. ⌜ r ≡ windowSum (channelCodes channel (framesIn (now (cells .entry))) (now (cells .entry))) f ⌝ }
+    ensures { λ r. ⌜ r ≡ windowSum (codesOf (now (cells .entry)) channel) f ⌝ }
 {
     let mut sum: u32 = 0;
     let mut k: usize = 0;
@@ -133,7 +109,7 @@ fn stronger(before: StrongestWindow, sum: u32, f: usize) -> StrongestWindow
 {
     if before.sum < sum {
         return StrongestWindow {
-            number: capture::ACCEPTED,
+            refusal: refusals::ACCEPTED,
             sum,
             frame: f,
         };
@@ -141,13 +117,14 @@ fn stronger(before: StrongestWindow, sum: u32, f: usize) -> StrongestWindow
     before
 }
 
+// The first of the strongest windows of a channel.
 fn strongest_window(cells: &[u16], channel: usize) -> StrongestWindow
     requires { ⌜ ChannelRight (now cells) channel ⌝ }
-    ensures { λ r. ⌜ r ≡ strongestUpTo (channelCodes channel (framesIn (now (cells .entry))) (now (cells .entry))) (framesIn (now (cells .entry)) - 8) ⌝ }
+    ensures { λ r. ⌜ r ≡ strongestIn (now (cells .entry)) channel ⌝ }
 {
     let last = cells.len() / 7 - 8;
     let mut best = StrongestWindow {
-        number: capture::ACCEPTED,
+        refusal: refusals::ACCEPTED,
         sum: window_sum(cells, channel, 0),
         frame: 0,
     };
@@ -165,21 +142,15 @@ fn strongest_window(cells: &[u16], channel: usize) -> StrongestWindow
 pub fn strongest(cells: &[u16], channel: usize) -> StrongestWindow
     ensures { λ r. ⌜ r ≡ strongestOf (now (cells .entry)) channel ⌝ }
 {
-    if cells.len() % 7 != 0 {
-        return no_window(capture::WRONG_SHAPE);
-    }
     if 5 < channel {
-        return no_window(capture::WRONG_SHAPE);
+        return no_window(refusals::WRONG_SHAPE);
     }
-    let n = cells.len() / 7;
-    if capture::MOST_FRAMES < n {
-        return no_window(capture::OUT_OF_RANGE);
+    let refusal = frames::cells::cells_refusal(cells);
+    if refusal != refusals::ACCEPTED {
+        return no_window(refusal);
     }
-    if out_of_range(cells) {
-        return no_window(capture::OUT_OF_RANGE);
-    }
-    if n < 8 {
-        return no_window(capture::FEW_FRAMES);
+    if cells.len() / 7 < 8 {
+        return no_window(refusals::FEW_FRAMES);
     }
     strongest_window(cells, channel)
 }

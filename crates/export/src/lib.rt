@@ -4,15 +4,15 @@
 // in for them.
 ghost use mathlib.Core.Path.{_≡_};
 ghost use Rattle.relay.specs.Relay.{freshOf, frameOf, resetOf};
-ghost use Rattle.capture.specs.Refusals.{Answered};
+ghost use Rattle.refusals.specs.Outcomes.{Answered};
 ghost use Rattle.reader.specs.Reading.{readOf};
 ghost use Rattle.writer.specs.Writing.{writeOf};
 ghost use Rattle.cells.specs.Excerpt.{placeOf};
 ghost use Rattle.cells.specs.Strongest.{strongestOf};
 ghost use Rattle.report.specs.Report.{Reported};
-use capture::Answer;
 use cells::Part;
 use cells::StrongestWindow;
+use refusals::Answer;
 use relay::FrameAnswer;
 use relay::FreshAnswer;
 use relay::Relay;
@@ -28,11 +28,9 @@ pub struct Codes {
 // Makes a fresh relay.
 #[no_mangle]
 pub extern "C" fn p6k_fresh(settings: Settings) -> FreshAnswer
-    ensures { λ r. ⌜ r ≡ freshOf (settings .drop) (settings .pickup) ⌝ }
+    ensures { λ r. ⌜ r ≡ freshOf settings ⌝ }
 {
-    let drop = settings.drop;
-    let pickup = settings.pickup;
-    Relay::fresh(drop, pickup)
+    Relay::fresh(settings)
 }
 
 // One frame: six codes and the enable byte.
@@ -55,7 +53,8 @@ pub extern "C" fn p6k_reset(relay: Relay, mask: u8) -> ResetAnswer
 // Reads a capture into the front of the lent cells.
 #[no_mangle]
 pub extern "C" fn p6k_read(bytes: &[u8], cells: &mut [u16]) -> Answer
-    ensures { λ r. ⌜ Answered (readOf (now (bytes .entry)) (now (cells .entry))) (r .number) (r .count) (now (cells .exit)) ⌝ }
+    ensures { λ r. ⌜
+        Answered (readOf (now (bytes .entry)) (now (cells .entry))) (r .refusal) (r .count) (now (cells .exit)) ⌝ }
 {
     reader::read(bytes, cells)
 }
@@ -63,7 +62,8 @@ pub extern "C" fn p6k_read(bytes: &[u8], cells: &mut [u16]) -> Answer
 // Writes the cells as a capture into the front of the lent bytes.
 #[no_mangle]
 pub extern "C" fn p6k_write(cells: &[u16], bytes: &mut [u8]) -> Answer
-    ensures { λ r. ⌜ Answered (writeOf (now (cells .entry)) (now (bytes .entry))) (r .number) (r .count) (now (bytes .exit)) ⌝ }
+    ensures { λ r. ⌜
+        Answered (writeOf (now (cells .entry)) (now (bytes .entry))) (r .refusal) (r .count) (now (bytes .exit)) ⌝ }
 {
     writer::write(cells, bytes)
 }

@@ -1,4 +1,5 @@
--- The starred bench figures hold. Each was computed where its definition stands, so that an edit of the definition meets it there; here they are gathered.
+-- The starred bench figures hold. Each was computed where its definition stands, so that an edit of the definition meets it there; here they are
+-- gathered.
 -- Rests on the figures of phasor and of the capture.
 use Rattle.phasor.proofs.Figures.{figures as amplitudes}
 use Rattle.capture.proofs.Figures.{figures as numbers}

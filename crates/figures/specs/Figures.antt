@@ -1,4 +1,5 @@
--- Document 01, "Bench figures": every figure marked *, in its order and gathered into one list, on the definitions that the contracts cite.
+-- Document 01, "Bench figures": every figure marked *, in its order and gathered into one list, on the definitions that
+-- the contracts cite.
 -- `figures` in proofs/Figures is its proof.
 use mathlib.Core.Path.{_≡_}
 use mathlib.Core.List.{[], _∷_}
@@ -13,11 +14,15 @@ pub record StarredFigures : Type 0 where
   -- "eight samples 100: m = 0"
   pub hundreds-m : amplitudeOf (replicate 8 (pos 100)) ≡ 0
   -- "100, 71, 0, −71, −100, −71, 0, 71 from slot 0: m = 1603"
-  pub wave-m : amplitudeOf (pos 100 ∷ pos 71 ∷ pos 0 ∷ negℤ (pos 71) ∷ negℤ (pos 100) ∷ negℤ (pos 71) ∷ pos 0 ∷ pos 71 ∷ []) ≡ 1603
+  pub wave-m : amplitudeOf
+      (pos 100 ∷ pos 71 ∷ pos 0 ∷ negℤ (pos 71) ∷ negℤ (pos 100) ∷ negℤ (pos 71) ∷ pos 0 ∷ pos 71 ∷ [])
+      ≡ 1603
   -- "100 in slot 0, else zero: x ends at 2698056, m = 400"
-  pub slot-0 : (lastX (pos 100 ∷ replicate 7 (pos 0)) ≡ pos 2698056) × (amplitudeOf (pos 100 ∷ replicate 7 (pos 0)) ≡ 400)
+  pub slot-0 : (lastX (pos 100 ∷ replicate 7 (pos 0)) ≡ pos 2698056)
+      × (amplitudeOf (pos 100 ∷ replicate 7 (pos 0)) ≡ 400)
   -- "100 in slot 1: x ends at 2697998, m = 399"
-  pub slot-1 : (lastX (pos 0 ∷ pos 100 ∷ replicate 6 (pos 0)) ≡ pos 2697998) × (amplitudeOf (pos 0 ∷ pos 100 ∷ replicate 6 (pos 0)) ≡ 399)
+  pub slot-1 : (lastX (pos 0 ∷ pos 100 ∷ replicate 6 (pos 0)) ≡ pos 2697998)
+      × (amplitudeOf (pos 0 ∷ pos 100 ∷ replicate 6 (pos 0)) ≡ 399)
   -- "127 is 7F"
   pub one-byte : sevenBitBytes 127 ≡ 0x7F ∷ []
   -- "128 is 80 01"

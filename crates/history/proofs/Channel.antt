@@ -5,21 +5,23 @@ use native.Mathlib.Decide.{decLe}
 use native.Mathlib.Omega.{arith}
 use mathlib.Core.Path.{_≡_, refl, sym, ap₂, _∙_, subst}
 use mathlib.Core.Logic.{_↔_}
-use mathlib.Core.Bool.{Bool, true, false, _&&_}
+use mathlib.Core.Bool.{Bool, true, false, _&&_, cond}
 use mathlib.Core.List.{List, [], _∷_}
 use lib.IntN.{ℤ}
-use lib.Dec.{T, leb}
+use lib.Dec.{T, leb, ltb}
 use lib.ListN.{set}
-use borrow.Author.Tests.{leb-true, leb-false}
+use borrow.Author.Tests.{leb-true, leb-false, ltb-true, ltb-false}
 use mir.Facts.{and-yes, yes-and}
-use Rattle.phasor.specs.Each.{table}
-use Rattle.phasor.specs.Window.{sampleOf}
+use Rattle.lists.specs.Each.{table}
+use Rattle.frames.specs.Codes.{sampleOf}
 use Rattle.relay.specs.declared.Channel.{Channel}
-use Rattle.relay.specs.declared.Levels.{Levels}
+use Rattle.relay.specs.declared.ChannelLevels.{ChannelLevels}
 use Rattle.relay.specs.Settings.{Kind, settled, loss, over}
 use Rattle.relay.specs.Channel.{freshChannel, clearedOf, runAfter, nextRun, nextLatch, channelAfter}
+use Rattle.relay.specs.Relay.{ageAfter, slotAfter}
 use Rattle.history.specs.History.{Input, Event, sampled, cleared, frames, resets, resetsBefore, windowOf}
-use Rattle.history.specs.History.{windowAt, Counted, Enabled, InRun, FullRun, FullRunMeeting, LatchOn}
+use Rattle.history.specs.History.{windowAt, Counted, Enabled, FullRun, FullRunMeeting, LatchOn}
+use Rattle.history.specs.Demand.{Margins}
 use Rattle.history.proofs.Runs.{Streak, FullAt, Full, no-streak, no-full, hit-streak, full-back, latch-frame}
 use Rattle.history.proofs.History.{_▷_, frames-sampled, inputs-cleared, input-append, input-last, resets-sampled, resets-cleared}
 use Rattle.history.proofs.History.{before-append, before-last, before-le, window-append, window-cleared, window-sampled}
@@ -28,12 +30,10 @@ T-true : {b : Bool} → b ≡ true → T b
 T-true e = subst T (sym e) tt
 
 module _ (kind : Kind) where
-  -- frame n can stand in a full run that meets its level and lies after the last reset
-  pub record Live (es : List Event) (n : ℕ) : Type 0 where
-    pub counted : Counted es n
-    pub enabled : Enabled es n
-    pub meets : T (kind .meets (windowAt es n))
-    pub afterLastReset : resetsBefore es n ≡ resets es
+  -- frame n can stand in a full run that meets its level and lies after the last reset: it is counted, it is enabled, its window meets the level,
+  -- and as many resets came before it as came at all
+  abbrev pub Live : List Event → ℕ → Type 0
+  Live es n = Counted es n × Enabled es n × T (kind .meets (windowAt es n)) × (resetsBefore es n ≡ resets es)
 
   -- what a channel keeps of one kind of run
   pub record RunIs (es : List Event) (run : ℕ) (latch : Bool) : Type 0 where
@@ -44,28 +44,23 @@ module _ (kind : Kind) where
 
   pub rule-full : (es : List Event) (j : ℕ) → FullRunMeeting kind es j → FullAt (kind .len) (frames es) (Live es) j
   rule-full es j m =
+      let run : FullRun es (kind .len) j = m .run in
       record {
-        within = m .run .within;
-        each = λ n a b.
-            let at : InRun es j n = m .run .each n a b in
-            record { counted = at .counted; enabled = at .enabled; meets = m .meets n a b; afterLastReset = at .notSeparated ∙ m .afterLastReset };
+        within = run .within;
+        each = λ n a b. (run .each n a b .counted, run .each n a b .enabled, m .meets n a b, run .each n a b .notSeparated ∙ m .afterLastReset);
       }
 
   full-rule : 0 < kind .len → (es : List Event) (j : ℕ) → FullAt (kind .len) (frames es) (Live es) j → FullRunMeeting kind es j
   full-rule some es j f =
+      let first : resetsBefore es j ≡ resets es = f .each j (omega arith) (omega arith) .3 in
       record {
         run = record {
           within = f .within;
-          each = λ n a b.
-              let at : Live es n = f .each n a b in
-              record { counted = at .counted; enabled = at .enabled; notSeparated = at .afterLastReset ∙ sym first };
+          each = λ n a b. let l : Live es n = f .each n a b in record { counted = l .0; enabled = l .1; notSeparated = l .3 ∙ sym first };
         };
-        meets = λ n a b. f .each n a b .meets;
+        meets = λ n a b. f .each n a b .2;
         afterLastReset = first;
       }
-    where
-      first : resetsBefore es j ≡ resets es
-      first = f .each j (omega arith) (omega arith) .afterLastReset
 
   latch-rule : 0 < kind .len → (es : List Event) (run : ℕ) (latch : Bool) → RunIs es run latch → T latch ↔ LatchOn kind es
   latch-rule some es run latch r = (
@@ -91,138 +86,164 @@ module _ (kind : Kind) where
       none : (n : ℕ) → n < frames (es ▷ cleared) → ¬ Live (es ▷ cleared) n
       none n h b =
           let l : n < frames es = rw inputs-cleared at h in
-          omega (arith, before-append es (cleared ∷ []) n l, b .afterLastReset, resets-cleared es, before-le es n)
+          omega (arith, before-append es (cleared ∷ []) n l, b .3, resets-cleared es, before-le es n)
 
   -- ---- a frame
 
   module _ (es : List Event) (i : Input) where
+    abbrev next : List Event
+    next = es ▷ sampled i
+
     -- the frames before it are live as they were
-    live-same : (n : ℕ) → n < frames es → Live es n ↔ Live (es ▷ sampled i) n
-    live-same n h = (
-      λ b. record {
-        counted = b .counted;
-        enabled = rw (input-append es (sampled i ∷ []) n h) (b .enabled);
-        meets = rw (window-append es (sampled i ∷ []) (suc n) h) (b .meets);
-        afterLastReset = before-append es (sampled i ∷ []) n h ∙ b .afterLastReset ∙ sym (resets-sampled es i);
-      },
-      λ b. record {
-        counted = b .counted;
-        enabled = rw (input-append es (sampled i ∷ []) n h) at (b .enabled);
-        meets = rw (window-append es (sampled i ∷ []) (suc n) h) at (b .meets);
-        afterLastReset = sym (before-append es (sampled i ∷ []) n h) ∙ b .afterLastReset ∙ resets-sampled es i;
-      },
-    )
+    live-same : (n : ℕ) → n < frames es → Live es n ↔ Live next n
+    live-same n h =
+        let one : List Event = sampled i ∷ [] in
+        rw (input-append es one n h, window-append es one (suc n) h, before-append es one n h, resets-sampled es i) (λ l. l, λ l. l)
 
     -- it is not live: nothing goes on
-    miss : ¬ Live (es ▷ sampled i) (frames es) → Streak (kind .len) (suc (frames es)) 0 (Live (es ▷ sampled i))
+    miss : ¬ Live next (frames es) → Streak (kind .len) (suc (frames es)) 0 (Live next)
     miss un =
-        no-streak (kind .len) (suc (frames es)) (Live (es ▷ sampled i))
-        (λ n e b. un (subst (Live (es ▷ sampled i)) (let q : n ≡ frames es = omega arith in q) b))
+        no-streak (kind .len) (suc (frames es)) (Live next)
+        (λ n e b. un (subst (Live next) (let q : n ≡ frames es = omega arith in q) b))
 
     -- the run after it, by the two tests that settle it: the frame is counted, and it is enabled with a window that meets the level
     run-after : (age run : ℕ) (counted feeds : Bool) → age ≡ min settled (frames es) → leb settled age ≡ counted
-        → (i .channelBit && i .bit6 && kind .meets (windowAt (es ▷ sampled i) (frames es))) ≡ feeds
+        → (i .channelBit && i .bit6 && kind .meets (windowAt next (frames es))) ≡ feeds
         → Streak (kind .len) (frames es) run (Live es)
-        → Streak (kind .len) (suc (frames es)) (runAfter counted feeds (kind .len) run) (Live (es ▷ sampled i))
+        → Streak (kind .len) (suc (frames es)) (runAfter counted feeds (kind .len) run) (Live next)
     run-after age run true true e q r s =
-        hit-streak (kind .len) (frames es) (Live es) (Live (es ▷ sampled i)) live-same run s
-        (record {
-          counted = omega (arith, leb-true settled age q);
-          enabled = rw input-last (and-yes (i .channelBit && i .bit6) _ (T-true r) .0);
-          meets = and-yes (i .channelBit && i .bit6) _ (T-true r) .1;
-          afterLastReset = before-last es i ∙ sym (resets-sampled es i);
-        })
-    run-after age run true false e q r s = miss (λ b. rw r at (both (rw input-last at (b .enabled)) (b .meets)))
+        let both = and-yes (i .channelBit && i .bit6) (kind .meets (windowAt next (frames es))) (T-true r) in
+        hit-streak (kind .len) (frames es) (Live es) (Live next) live-same run s
+        (omega (arith, leb-true settled age q), rw input-last (both .0), both .1, before-last es i ∙ sym (resets-sampled es i))
+    run-after age run true false e q r s =
+        miss (λ b. rw r at (yes-and (i .channelBit && i .bit6) (kind .meets (windowAt next (frames es))) (rw input-last at (b .1)) (b .2)))
+    run-after age run false feeds e q r s = rw (idle run s) (miss (λ b. early (b .0)))
       where
-        both : T (i .channelBit && i .bit6) → T (kind .meets (windowAt (es ▷ sampled i) (frames es))) → T (i .channelBit && i .bit6 && kind .meets (windowAt (es ▷ sampled i) (frames es)))
-        both = yes-and (i .channelBit && i .bit6) (kind .meets (windowAt (es ▷ sampled i) (frames es)))
-    run-after age run false feeds e q r s = rw (idle run s) (miss (λ b. early (b .counted)))
-      where
-        early : ¬ Counted (es ▷ sampled i) (frames es)
+        early : ¬ Counted next (frames es)
         early h = omega (arith, leb-false settled age q)
 
         idle : (run : ℕ) → Streak (kind .len) (frames es) run (Live es) → run ≡ 0
         idle zero s = refl
         idle (suc run) s =
             let h : suc run ≤ frames es = s .room in
-            absurd (early (omega (arith, s .hits (frames es - 1) (omega arith) (omega arith) .counted)))
+            absurd (early (omega (arith, s .hits (frames es - 1) (omega arith) (omega arith) .0)))
 
     pub run-sampled : 0 < kind .len → (age run : ℕ) (latch : Bool) (window : List ℤ) → age ≡ min settled (frames es)
-        → window ≡ windowAt (es ▷ sampled i) (frames es) → RunIs es run latch
-        → RunIs (es ▷ sampled i) (nextRun kind (leb settled age) (i .channelBit && i .bit6) window run)
+        → window ≡ windowAt next (frames es) → RunIs es run latch
+        → RunIs next (nextRun kind (leb settled age) (i .channelBit && i .bit6) window run)
         (nextLatch kind (nextRun kind (leb settled age) (i .channelBit && i .bit6) window run) latch)
     unfolding nextRun
     run-sampled some age run latch window e w r =
         record {
           streak = rw frames-sampled streak;
-          on = rw frames-sampled (latch-frame (kind .len) (frames es) (Live es) (Live (es ▷ sampled i)) live-same _ latch some streak (r .on));
+          on = rw frames-sampled (latch-frame (kind .len) (frames es) (Live es) (Live next) live-same _ latch some streak (r .on));
         }
       where
-        streak : Streak (kind .len) (suc (frames es)) (nextRun kind (leb settled age) (i .channelBit && i .bit6) window run) (Live (es ▷ sampled i))
+        streak : Streak (kind .len) (suc (frames es)) (nextRun kind (leb settled age) (i .channelBit && i .bit6) window run) (Live next)
         streak = rw w (run-after age run _ _ e refl refl (r .streak))
 
     -- where the latch went on in the frame, a full run that meets its level ends there
-    pub went-on : 0 < kind .len → (run : ℕ) (latch : Bool) → RunIs es run latch → ¬ T latch → LatchOn kind (es ▷ sampled i)
-        → (j : ℕ) × (j + kind .len ≡ frames (es ▷ sampled i)) × FullRunMeeting kind (es ▷ sampled i) j
-    went-on some run latch r off (j, m) = (j, ends (decLe (j + kind .len) (frames es)), m)
+    went-on : (run : ℕ) (latch : Bool) → RunIs es run latch → ¬ T latch → LatchOn kind next
+        → (j : ℕ) × (j + kind .len ≡ frames next) × FullRunMeeting kind next j
+    went-on run latch r off (j, m) = (j, ends (decLe (j + kind .len) (frames es)), m)
       where
-        ends : Dec (j + kind .len ≤ frames es) → j + kind .len ≡ frames (es ▷ sampled i)
+        ends : Dec (j + kind .len ≤ frames es) → j + kind .len ≡ frames next
         ends (yes early) =
             absurd (off (r .on .1 (
               j,
-              full-back (kind .len) (frames es) (Live es) (Live (es ▷ sampled i)) live-same j early
-                  (rw frames-sampled at (rule-full (es ▷ sampled i) j m)),
+              full-back (kind .len) (frames es) (Live es) (Live next) live-same j early (rw frames-sampled at (rule-full next j m)),
             )))
         ends (no late) = omega (arith, frames-sampled es i, m .run .within)
 
     -- a full run that ends at the frame lies after the last reset
-    pub ends-here : (len j : ℕ) → 0 < len → j + len ≡ frames (es ▷ sampled i) → FullRun (es ▷ sampled i) len j
-        → resetsBefore (es ▷ sampled i) j ≡ resets (es ▷ sampled i)
-    ends-here len j some e r =
-        let f : frames (es ▷ sampled i) ≡ suc (frames es) = frames-sampled es i in
+    ends-here : 0 < kind .len → (j : ℕ) → j + kind .len ≡ frames next → FullRun next (kind .len) j → resetsBefore next j ≡ resets next
+    ends-here some j e r =
+        let f : frames next ≡ suc (frames es) = frames-sampled es i in
         sym (r .each (frames es) (omega arith) (omega arith) .notSeparated) ∙ before-last es i ∙ sym (resets-sampled es i)
 
--- ---- a channel: its window and its two kinds of run
+    -- the clauses on Z, where the level is met if Surely holds, and only if Possibly does
+    pub margins : 0 < kind .len → (Surely Possibly : List ℤ → Type 0)
+        → ((n : ℕ) → Surely (windowAt next n) → T (kind .meets (windowAt next n)))
+        → ((n : ℕ) → T (kind .meets (windowAt next n)) → Possibly (windowAt next n))
+        → {run : ℕ} {was now : Bool} → RunIs es run was → (T now ↔ LatchOn kind next) → Margins kind Surely Possibly next was now
+    margins some Surely Possibly met near {run} {was} r rule =
+        record {
+          clearMargin = λ j e full each. rule .1
+              (j, record { run = full; meets = λ n a b. met n (each n a b); afterLastReset = ends-here some j e full });
+          nearMargin = λ off on.
+              let t = went-on run was r off (rule .0 on) in
+              (t .0, t .1, t .2 .run, λ n a b. near n (t .2 .meets n a b));
+        }
 
-pub record ChannelIs (levels : Levels) (es : List Event) (ch : Channel) : Type 0 where
+-- ---- a channel: its window and its two kinds of run, and the age and the slot by which the next frame goes
+
+pub record ChannelIs (levels : ChannelLevels) (es : List Event) (age slot : ℕ) (ch : Channel) : Type 0 where
   pub samples : ch .samples ≡ windowOf es (frames es)
   pub lossRun : RunIs (loss levels) es (ch .«loss_run») (ch .«loss_latch»)
   pub overRun : RunIs (over levels) es (ch .«over_run») (ch .«over_latch»)
+  pub aged : age ≡ min settled (frames es)
+  pub placed : slot ≡ frames es % 8
 
 -- its latches go by the rule
-module _ (levels : Levels) (es : List Event) (ch : Channel) (v : ChannelIs levels es ch) where
+module _ {levels : ChannelLevels} {es : List Event} {age slot : ℕ} {ch : Channel} (v : ChannelIs levels es age slot ch) where
   pub loss-rule : T (ch .«loss_latch») ↔ LatchOn (loss levels) es
   loss-rule = latch-rule (loss levels) (omega arith) es (ch .«loss_run») (ch .«loss_latch») (v .lossRun)
 
   pub over-rule : T (ch .«over_latch») ↔ LatchOn (over levels) es
   over-rule = latch-rule (over levels) (omega arith) es (ch .«over_run») (ch .«over_latch») (v .overRun)
 
-pub channel-fresh : (levels : Levels) → ChannelIs levels [] freshChannel
+pub channel-fresh : (levels : ChannelLevels) → ChannelIs levels [] 0 0 freshChannel
 unfolding freshChannel windowOf table
-channel-fresh levels = record { samples = refl; lossRun = run-fresh (loss levels) (omega arith); overRun = run-fresh (over levels) (omega arith) }
+channel-fresh levels =
+    record {
+      samples = refl;
+      lossRun = run-fresh (loss levels) (omega arith);
+      overRun = run-fresh (over levels) (omega arith);
+      aged = refl;
+      placed = refl;
+    }
 
-pub channel-cleared : (levels : Levels) (es : List Event) (ch : Channel) → ChannelIs levels es ch → ChannelIs levels (es ▷ cleared) (clearedOf ch)
-channel-cleared levels es ch v =
+pub channel-cleared : (levels : ChannelLevels) (es : List Event) (age slot : ℕ) (ch : Channel) → ChannelIs levels es age slot ch
+    → ChannelIs levels (es ▷ cleared) age slot (clearedOf ch)
+channel-cleared levels es age slot ch v =
     record {
       samples = v .samples ∙ rw (inputs-cleared es) (sym (window-cleared es (frames es)));
       lossRun = run-cleared (loss levels) (omega arith) es;
       overRun = run-cleared (over levels) (omega arith) es;
+      aged = rw (inputs-cleared es) (v .aged);
+      placed = rw (inputs-cleared es) (v .placed);
     }
 
-pub channel-sampled : (levels : Levels) (es : List Event) (ch : Channel) (age slot code : ℕ) (channelBit bit6 : Bool)
-    → age ≡ min settled (frames es) → slot ≡ frames es % 8 → ChannelIs levels es ch
-    → ChannelIs levels (es ▷ sampled (record { sample = sampleOf code; channelBit = channelBit; bit6 = bit6 }))
+age-step : (age n : ℕ) → age ≡ min settled n → ageAfter age ≡ min settled (suc n)
+age-step age n e = by (ltb age settled) refl
+  where
+    by : (b : Bool) → ltb age settled ≡ b → cond b (age + 1) age ≡ min settled (suc n)
+    by true q = omega (arith, ltb-true age settled q)
+    by false q = omega (arith, ltb-false age settled q)
+
+slot-step : (slot n : ℕ) → slot ≡ n % 8 → slotAfter slot ≡ suc n % 8
+slot-step slot n e = by (ltb slot 7) refl
+  where
+    by : (b : Bool) → ltb slot 7 ≡ b → cond b (slot + 1) 0 ≡ suc n % 8
+    by true q = omega (arith, ltb-true slot 7 q)
+    by false q = omega (arith, ltb-false slot 7 q)
+
+pub channel-sampled : (levels : ChannelLevels) (es : List Event) (age slot : ℕ) (ch : Channel) (code : ℕ) (channelBit bit6 : Bool)
+    → ChannelIs levels es age slot ch
+    → ChannelIs levels (es ▷ sampled (record { sample = sampleOf code; channelBit = channelBit; bit6 = bit6 })) (ageAfter age) (slotAfter slot)
     (channelAfter levels slot (leb settled age) (channelBit && bit6) code ch)
 unfolding channelAfter
-channel-sampled levels es ch age slot code channelBit bit6 a s v =
+channel-sampled levels es age slot ch code channelBit bit6 v =
     record {
       samples = window ∙ rw frames-sampled;
-      lossRun = run-sampled (loss levels) es i (omega arith) age (ch .«loss_run») (ch .«loss_latch») _ a window (v .lossRun);
-      overRun = run-sampled (over levels) es i (omega arith) age (ch .«over_run») (ch .«over_latch») _ a window (v .overRun);
+      lossRun = run-sampled (loss levels) es i (omega arith) age (ch .«loss_run») (ch .«loss_latch») _ (v .aged) window (v .lossRun);
+      overRun = run-sampled (over levels) es i (omega arith) age (ch .«over_run») (ch .«over_latch») _ (v .aged) window (v .overRun);
+      aged = rw frames-sampled (age-step age (frames es) (v .aged));
+      placed = rw frames-sampled (slot-step slot (frames es) (v .placed));
     }
   where
     i : Input
     i = record { sample = sampleOf code; channelBit = channelBit; bit6 = bit6 }
 
     window : set (ch .samples) slot (sampleOf code) ≡ windowAt (es ▷ sampled i) (frames es)
-    window = ap₂ (λ (w : List ℤ) (k : ℕ). set w k (sampleOf code)) (v .samples) s ∙ window-sampled es i
+    window = ap₂ (λ (w : List ℤ) (k : ℕ). set w k (sampleOf code)) (v .samples) (v .placed) ∙ window-sampled es i

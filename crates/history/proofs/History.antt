@@ -1,19 +1,17 @@
 -- A channel's history when one more event comes at its end: frames, resets and windows. Rests on the definitions of the history.
 use Prim.Native.Nat.{ℕ, zero, suc, _+_, _%_, _≤_, _<_, zero-le, suc-le-suc}
 use native.Mathlib.Nat.{le-of-suc-le-suc, le-refl, mod-lt}
-use native.Mathlib.Decide.{ℕ-discrete}
 use native.Mathlib.Omega.{arith}
-use mathlib.Core.Path.{_≡_, refl, sym, ap, ap₂, _∙_, fun-ext}
+use mathlib.Core.Path.{_≡_, refl, sym, ap, ap₂, _∙_}
 use mathlib.Core.Bool.{cond}
 use mathlib.Core.List.{List, [], _∷_, _++_, append-nil}
-use lib.IntN.{ℤ, pos}
+use lib.IntN.{ℤ}
 use lib.Dec.{eqb}
-use lib.ListN.{length, getD, set, length-append, length-set, List·getD-append}
-use lib.Seq.{getD-append-seam, ext-getD, getD-set-same, getD-set-other}
-use borrow.Author.Tests.{eq-eqb, ne-eqb}
-use Rattle.phasor.specs.Each.{table}
-use Rattle.phasor.proofs.Each.{length-table, getD-table}
-use Rattle.history.specs.History.{Input, Event, sampled, cleared, inputs, frames, inputAt, noInput, resets, resetsBefore, latestInSlot, windowOf, windowAt}
+use lib.ListN.{length, getD, set, length-append, List·getD-append}
+use lib.Seq.{getD-append-seam}
+use Rattle.lists.proofs.Each.{set-table, table-same}
+use Rattle.history.specs.History.{Input, Event, sampled, cleared, inputs, frames, inputAt, noInput, resets, resetsBefore}
+use Rattle.history.specs.History.{latestInSlot, windowOf, windowAt}
 
 -- one event more
 infixl 60 _▷_
@@ -73,30 +71,15 @@ latest-same es fs zero k same = refl
 latest-same es fs (suc n) k same =
     ap₂ (λ (a : Input) (b : ℤ). cond (eqb (n % 8) k) (a .sample) b) (same n (le-refl (suc n))) (latest-same es fs n k (λ i h. same i (omega arith)))
 
-pub window-append : (es fs : List Event) (n : ℕ) → n ≤ frames es → windowOf (es ++ fs) n ≡ windowOf es n
+window-same : (es fs : List Event) (n : ℕ) → ((i : ℕ) → i < n → inputAt es i ≡ inputAt fs i) → windowOf es n ≡ windowOf fs n
 unfolding windowOf
-window-append es fs n h = ap (λ (f : ℕ → ℤ). table 8 f) (fun-ext (λ k. latest-same (es ++ fs) es n k (λ i l. input-append es fs i (omega arith))))
+window-same es fs n same = table-same 8 (latestInSlot es n) (latestInSlot fs n) (λ k l. latest-same es fs n k same)
+
+pub window-append : (es fs : List Event) (n : ℕ) → n ≤ frames es → windowOf (es ++ fs) n ≡ windowOf es n
+window-append es fs n h = window-same (es ++ fs) es n (λ i l. input-append es fs i (omega arith))
 
 pub window-cleared : (es : List Event) (n : ℕ) → windowOf (es ▷ cleared) n ≡ windowOf es n
-unfolding windowOf
-window-cleared es n =
-    ap (λ (f : ℕ → ℤ). table 8 f) (fun-ext (λ k. latest-same (es ▷ cleared) es n k (λ i l. ap (λ (is : List Input). getD is i noInput) (inputs-cleared es))))
-
--- a table with one entry replaced
-set-table : (n i : ℕ) (f : ℕ → ℤ) (x : ℤ) → i < n → set (table n f) i x ≡ table n (λ k. cond (eqb i k) x (f k))
-set-table n i f x h =
-    ext-getD (pos 0) (set (table n f) i x) (table n g) (length-set (table n f) i x ∙ length-table n f ∙ sym (length-table n g))
-    (λ k l. at k (inside k l) (ℕ-discrete k i) ∙ sym (getD-table n g (pos 0) k (inside k l)))
-  where
-    g : ℕ → ℤ
-    g k = cond (eqb i k) x (f k)
-
-    inside : (k : ℕ) → k < length (set (table n f) i x) → k < n
-    inside k l = rw (length-set, length-table) at l
-
-    at : (k : ℕ) → k < n → Dec (k ≡ i) → getD (set (table n f) i x) k (pos 0) ≡ cond (eqb i k) x (f k)
-    at k l (yes e) = rw (e, eq-eqb i i refl) (getD-set-same (table n f) i x (pos 0) (rw length-table h))
-    at k l (no e) = rw (ne-eqb i k (λ q. e (sym q))) (getD-set-other (table n f) i k x (pos 0) e ∙ getD-table n f (pos 0) k l)
+window-cleared es n = window-same (es ▷ cleared) es n (λ i l. rw (inputs-cleared es))
 
 -- a frame's sample goes to its slot
 pub window-sampled : (es : List Event) (i : Input)
@@ -104,6 +87,6 @@ pub window-sampled : (es : List Event) (i : Input)
 unfolding windowOf
 window-sampled es i =
     set-table 8 (frames es % 8) (latestInSlot es (frames es)) (i .sample) (mod-lt (frames es) (omega arith))
-    ∙ ap (λ (f : ℕ → ℤ). table 8 f) (fun-ext (λ k.
+    ∙ table-same 8 _ (latestInSlot (es ▷ sampled i) (suc (frames es))) (λ k l.
     ap₂ (λ (a : Input) (b : ℤ). cond (eqb (frames es % 8) k) (a .sample) b) (sym (input-last es i))
-    (latest-same es (es ▷ sampled i) (frames es) k (λ n l. sym (input-append es (sampled i ∷ []) n l)))))
+    (latest-same es (es ▷ sampled i) (frames es) k (λ n l. sym (input-append es (sampled i ∷ []) n l))))

@@ -1,25 +1,30 @@
 -- What the demand's own words give on closed lists of calls, computed: which calls and settings are accepted, what a channel meets, its window, its
--- levels and tests, and the margins on Z. They pin these words from outside the relay. Rests on the definitions of the history, and takes the order
--- of one exact amplitude from phasor's calls.
-use Prim.Native.Nat.{ℕ, zero, suc, _+_, _≤_, _<_}
+-- levels and tests, a full run and the margins on Z; and what our relay answers on the lists that Refutations goes by. They pin these words from
+-- outside the relay. Rests on the definitions of the history, and takes the order of one exact amplitude from phasor's calls.
+use Prim.Native.Nat.{ℕ, zero, suc, _+_}
 use native.Mathlib.Omega.{arith}
-use mathlib.Core.Path.{_≡_, refl}
-use mathlib.Core.Bool.{Bool, true, false}
+use mathlib.Core.Path.{_≡_, refl, sym, subst}
+use mathlib.Core.Bool.{Bool, true, false, _&&_}
 use mathlib.Core.List.{List, [], _∷_, _++_}
 use lib.IntN.{ℤ, pos, negℤ}
+use lib.Dec.{T, eqb}
 use lib.ListN.{getD, set, replicate, getD-replicate}
-use Rattle.phasor.specs.Each.{every, table}
-use Rattle.phasor.specs.Fourier.{re, im, sumOver, cosines, sines}
+use borrow.Author.Tests.{eqb-true}
+use Rattle.lists.specs.Each.{table}
+use Rattle.lists.proofs.Each.{every-at}
 use Rattle.phasor.proofs.Calls.{exact}
-use Rattle.phasor.specs.Cordic.{amplitudeOf, scaledOf, lastX, startOf, steps, stepAt}
-use Rattle.relay.specs.declared.Levels.{Levels}
+use Rattle.relay.specs.declared.ChannelLevels.{ChannelLevels}
+use Rattle.relay.specs.declared.Settings.{Settings}
+use Rattle.relay.specs.declared.FrameAnswer.{FrameAnswer}
 use Rattle.relay.specs.Relay.{freshOf, frameOf, resetOf}
-use Rattle.relay.specs.Settings.{Kind, dropsSound, pickupsSound}
-use Rattle.history.specs.Calls.{Codes, Call, frame, reset, frameRefusedBy, resetRefusedBy, refusal, accepted, framesIn, theRelay}
-use Rattle.history.specs.History.{Input, Event, sampled, cleared, channelHistory, resets, resetsBefore, windowOf, windowAt, Counted, Enabled}
+use Rattle.relay.proofs.Examples.{equalLevels}
+use Rattle.history.specs.Calls.{Codes, Call, frame, reset, frameRefusedBy, resetRefusedBy, refusalOf, acceptedFrames, theRelay}
+use Rattle.history.specs.History.{Event, sampled, cleared, channelHistory, frames, inputAt, resets, resetsBefore}
+use Rattle.history.specs.History.{windowAt, Counted, Enabled, FullRun}
 use Rattle.history.specs.Demand.{SurelyBelowDrop, PossiblyBelowDrop, SurelyOverPickup, PossiblyOverPickup}
-use Rattle.history.specs.Demand.{levels, lossOf, overOf, AcceptedSettings}
-use Rattle.history.proofs.Accepted.{settings-accepted}
+use Rattle.history.specs.Demand.{Margins, levels, lossOf, overOf, LossMargins, OverMargins, relayAfter, lossAfter, overAfter, AcceptedSettings}
+use Rattle.history.proofs.Accepted.{range-says}
+use Rattle.history.proofs.Computed.{computed}
 
 -- ---- a list of calls with refused ones in it
 
@@ -46,15 +51,42 @@ abbrev rising : ℕ → List Call
 rising zero = []
 rising (suc n) = rising n ++ (frame (six 512 512 (513 + n) 512 512 512) 0x7F ∷ [])
 
--- nine levels, no two alike
-abbrev drops : List ℕ
-drops = 401 ∷ 402 ∷ 403 ∷ 404 ∷ 405 ∷ 400 ∷ []
+-- drop levels that are all unlike, and pickup levels; and levels of 1 with another in the last place of a kind
+abbrev nine : Settings
+nine = record { drop = 401 ∷ 402 ∷ 403 ∷ 404 ∷ 405 ∷ 400 ∷ []; pickup = 399 ∷ 398 ∷ 401 ∷ [] }
 
-abbrev pickups : List ℕ
-pickups = 399 ∷ 398 ∷ 401 ∷ []
+abbrev lastDrop : ℕ → Settings
+lastDrop level = record { drop = set (replicate 6 1) 5 level; pickup = replicate 3 1 }
 
-abbrev own : ℕ → ℕ → Bool → Levels
+abbrev lastPickup : ℕ → Settings
+lastPickup level = record { drop = replicate 6 1; pickup = set (replicate 3 1) 2 level }
+
+abbrev own : ℕ → ℕ → Bool → ChannelLevels
 own drop pickup current = record { drop = drop; pickup = pickup; current = current }
+
+-- frames of code 512 under levels that are all 1 (document 01, "Bench figures"), "Enable bits 0 to 6 are on throughout"
+abbrev pub ones : Settings
+ones = equalLevels 1 1
+
+abbrev pub still : ℕ → Codes
+still code = record { list = replicate 6 code; six = refl }
+
+abbrev pub frames512 : ℕ → ℕ → List Call
+frames512 enable zero = []
+frames512 enable (suc n) = frames512 enable n ++ (frame (still 512) enable ∷ [])
+
+abbrev pub quiet : ℕ → List Call
+quiet n = frames512 127 n
+
+-- channel 0 over 88 of them, and our relay: what it answers to one frame more, and its age
+abbrev long : List Event
+long = channelHistory 0 (quiet 88)
+
+abbrev pub answerTo : List Call → ℕ → FrameAnswer
+answerTo past code = frameOf (relayAfter theRelay ones past) (replicate 6 code) 127
+
+abbrev ourAge : List Call → ℕ
+ourAge list = relayAfter theRelay ones list .age
 
 -- m = 400, and Z is 400 exactly: Z ≥ 400, and not Z ≥ 401 (phasor's `exact`)
 abbrev window400 : List ℤ
@@ -64,22 +96,25 @@ pub record HistoryCalls : Type 0 where
   -- the demand is claimed of the functions that the contracts of `fresh`, `frame` and `reset` name
   pub ours : theRelay ≡ record { fresh = freshOf; frame = frameOf; reset = resetOf }
   -- "1 to 10,700": both ends, each kind of level apart; and one level outside, the last of its kind
-  pub highest-drops : AcceptedSettings (replicate 6 10700) (replicate 3 1)
-  pub highest-pickups : AcceptedSettings (replicate 6 1) (replicate 3 10700)
-  pub unlike : AcceptedSettings drops pickups
-  pub last-drop : ¬ AcceptedSettings (set (replicate 6 1) 5 10701) (replicate 3 1) × ¬ AcceptedSettings (set (replicate 6 1) 5 0) (replicate 3 1)
-  pub last-pickup : ¬ AcceptedSettings (replicate 6 1) (set (replicate 3 1) 2 10701) × ¬ AcceptedSettings (replicate 6 1) (set (replicate 3 1) 2 0)
+  pub highest-drops : AcceptedSettings (equalLevels 10700 1)
+  pub highest-pickups : AcceptedSettings (equalLevels 1 10700)
+  pub lowest : AcceptedSettings ones
+  pub unlike : AcceptedSettings nine
+  pub last-drop : ¬ AcceptedSettings (lastDrop 10701) × ¬ AcceptedSettings (lastDrop 0)
+  pub last-pickup : ¬ AcceptedSettings (lastPickup 10701) × ¬ AcceptedSettings (lastPickup 0)
   -- "a code above 1023", in each channel, before "enable bit 7 is 1"; the highest codes and the lowest are accepted with bits 0 to 6 and with none
   pub codes-high : table 6 (λ c. frameRefusedBy (set (replicate 6 512) c 1024) 0xFF) ≡ replicate 6 3
   pub codes-high-off : table 6 (λ c. frameRefusedBy (set (replicate 6 512) c 1024) 0x00) ≡ replicate 6 3
   pub codes-taken : (frameRefusedBy (replicate 6 1023) 0x7F ≡ 0) × (frameRefusedBy (replicate 6 0) 0x00 ≡ 0)
+  pub middle-taken : (frameRefusedBy (replicate 6 512) 0x7F ≡ 0) × (frameRefusedBy (replicate 6 512) 0x00 ≡ 0)
   pub enable-refused : (frameRefusedBy (replicate 6 512) 0x80 ≡ 4) × (frameRefusedBy (replicate 6 512) 0xFF ≡ 4)
-  -- "A reset takes a mask of bits 0 to 5": all 64 are accepted, and no other byte is
+  -- "A reset takes a mask of bits 0 to 5": all 64 are accepted, none and channel 5 alone among them, and no other byte is
   pub masks-taken : table 64 resetRefusedBy ≡ replicate 64 0
+  pub ends-taken : (resetRefusedBy 0 ≡ 0) × (resetRefusedBy 32 ≡ 0)
   pub masks-refused : table 192 (λ k. resetRefusedBy (64 + k)) ≡ replicate 192 5
   -- "A refused call .. has no frame number and separates nothing"
-  pub numbers : table 8 (λ k. refusal (getD story k (reset 0))) ≡ 0 ∷ 3 ∷ 0 ∷ 4 ∷ 5 ∷ 0 ∷ 0 ∷ 0 ∷ []
-  pub three : framesIn story ≡ 3
+  pub refusals : table 8 (λ k. refusalOf (getD story k (reset 0))) ≡ 0 ∷ 3 ∷ 0 ∷ 4 ∷ 5 ∷ 0 ∷ 0 ∷ 0 ∷ []
+  pub three : acceptedFrames story ≡ 3
   pub first-channel : channelHistory 0 story ≡ met (pos 0) true true ∷ cleared ∷ met (negℤ (pos 512)) true true ∷ met (negℤ (pos 503)) true false ∷ []
   pub last-channel : channelHistory 5 story ≡ met (pos 5) false true ∷ cleared ∷ met (pos 511) true true ∷ met (negℤ (pos 508)) true false ∷ []
   -- as many resets before a frame as came before it
@@ -93,13 +128,31 @@ pub record HistoryCalls : Type 0 where
   pub separated-window : windowAt (channelHistory 5 story) 2 ≡ pos 5 ∷ pos 511 ∷ negℤ (pos 508) ∷ replicate 5 (pos 0)
   pub turning : windowAt (channelHistory 2 (rising 12)) 11 ≡ pos 9 ∷ pos 10 ∷ pos 11 ∷ pos 12 ∷ pos 5 ∷ pos 6 ∷ pos 7 ∷ pos 8 ∷ []
   -- "a drop level for each channel and a pickup level for each current"
-  pub own-levels : table 6 (levels drops pickups)
+  pub own-levels : table 6 (levels nine)
       ≡ own 401 0 false ∷ own 402 0 false ∷ own 403 0 false ∷ own 404 399 true ∷ own 405 398 true ∷ own 400 401 true ∷ []
+  -- the clauses on Z are said of channel c's own levels
+  pub own-margins : (LossMargins nine 4 story true false
+      → Margins (lossOf nine 4) (SurelyBelowDrop 405) (PossiblyBelowDrop 405) (channelHistory 4 story) true false)
+      × (OverMargins nine 4 story true false
+      → Margins (overOf nine 4) (SurelyOverPickup 398) (PossiblyOverPickup 398) (channelHistory 4 story) true false)
+  -- "A full run is 16 (loss) .. successive counted frames": of 88 frames the last sixteen are one, and no sixteen before or after them
+  pub full-run : FullRun long 16 72
+  pub too-early : ¬ FullRun long 16 71
+  pub too-late : ¬ FullRun long 16 73
+  -- "loss latches in frame 87", which answers six latches; it does not in frame 72, the first that is counted, nor if no channel is enabled
+  pub at87 : lossAfter theRelay ones (quiet 88) 0 ≡ true
+  pub at72 : lossAfter theRelay ones (quiet 73) 0 ≡ false
+  pub disabled : lossAfter theRelay ones (frames512 0 88) 0 ≡ false
+  pub none-over : table 6 (overAfter theRelay ones (quiet 88)) ≡ replicate 6 false
+  pub output87 : answerTo (quiet 87) 512 .output ≡ 63
+  -- the age before a first frame, after it, and after a reset behind it; the amplitudes that a first frame answers
+  pub ages : (ourAge [] ≡ 0) × (ourAge (quiet 1) ≡ 1) × (ourAge (quiet 1 ++ (reset 0 ∷ [])) ≡ 1)
+  pub amplitudes : (getD (answerTo [] 512 .amplitudes) 0 0 ≡ 0) × (getD (answerTo [] 1023 .amplitudes) 0 0 ≡ 2044)
   -- "16 (loss) or 4 (over)"; "m < drop (loss) or m ≥ pickup (over)" at m = 400
-  pub lengths : (lossOf drops pickups 5 .len ≡ 16) × (overOf drops pickups 5 .len ≡ 4)
-  pub losing : table 6 (λ c. lossOf drops pickups c .meets window400) ≡ replicate 5 true ++ (false ∷ [])
-  pub rising-over : table 6 (λ c. overOf drops pickups c .meets window400) ≡ replicate 3 false ++ (true ∷ true ∷ false ∷ [])
-  pub at-pickup : overOf drops (replicate 3 400) 3 .meets window400 ≡ true
+  pub lengths : (lossOf nine 5 .len ≡ 16) × (overOf nine 5 .len ≡ 4)
+  pub losing : table 6 (λ c. lossOf nine c .meets window400) ≡ replicate 5 true ++ (false ∷ [])
+  pub rising-over : table 6 (λ c. overOf nine c .meets window400) ≡ replicate 3 false ++ (true ∷ true ∷ false ∷ [])
+  pub at-pickup : overOf (equalLevels 1 400) 3 .meets window400 ≡ true
   -- the margins of 2, at Z = 400: "Z ≥ pickup + 2", "Z ≥ pickup − 2"; "Z < drop − 2", "Z < drop + 2"
   pub over-margins : SurelyOverPickup 398 window400 × ¬ SurelyOverPickup 399 window400
       × PossiblyOverPickup 402 window400 × ¬ PossiblyOverPickup 403 window400
@@ -107,8 +160,7 @@ pub record HistoryCalls : Type 0 where
       × PossiblyBelowDrop 399 window400 × ¬ PossiblyBelowDrop 398 window400
 
 pub calls : HistoryCalls
-unfolding dropsSound pickupsSound every table re im sumOver cosines sines amplitudeOf scaledOf lastX startOf steps stepAt
-    frameRefusedBy resetRefusedBy windowOf
+unfolding computed
 calls =
     record {
       ours = refl;
@@ -120,16 +172,19 @@ calls =
         drops = λ c h. rw (getD-replicate {A = ℕ} 6 c 1 0 h) (omega arith, omega arith);
         pickups = λ k h. rw (getD-replicate {A = ℕ} 3 k 10700 0 h) (omega arith, omega arith);
       };
-      unlike = settings-accepted drops pickups refl;
+      lowest = record { drops = range-says 6 (ones .drop) refl; pickups = range-says 3 (ones .pickup) refl };
+      unlike = record { drops = range-says 6 (nine .drop) refl; pickups = range-says 3 (nine .pickup) refl };
       last-drop = (λ s. absurd (omega (arith, s .drops 5 (omega arith) .1)), λ s. absurd (omega (arith, s .drops 5 (omega arith) .0)));
       last-pickup = (λ s. absurd (omega (arith, s .pickups 2 (omega arith) .1)), λ s. absurd (omega (arith, s .pickups 2 (omega arith) .0)));
       codes-high = refl;
       codes-high-off = refl;
       codes-taken = (refl, refl);
+      middle-taken = (refl, refl);
       enable-refused = (refl, refl);
       masks-taken = refl;
+      ends-taken = (refl, refl);
       masks-refused = refl;
-      numbers = refl;
+      refusals = refl;
       three = refl;
       first-channel = refl;
       last-channel = refl;
@@ -141,6 +196,24 @@ calls =
       separated-window = refl;
       turning = refl;
       own-levels = refl;
+      own-margins = (λ m. m, λ m. m);
+      full-run = record {
+        within = omega (arith, all);
+        each = λ n a b. record {
+          counted = a;
+          enabled = subst T (sym (every-at 88 (λ n. inputAt long n .channelBit && inputAt long n .bit6) refl n (omega arith))) tt;
+          notSeparated = eqb-true _ 0 (every-at 88 (λ n. eqb (resetsBefore long n) 0) refl n (omega arith));
+        };
+      };
+      too-early = λ r. absurd (omega (arith, r .each 71 (omega arith) (omega arith) .counted));
+      too-late = λ r. absurd (omega (arith, all, r .within));
+      at87 = refl;
+      at72 = refl;
+      disabled = refl;
+      none-over = refl;
+      output87 = refl;
+      ages = (refl, refl, refl);
+      amplitudes = (refl, refl);
       lengths = (refl, refl);
       losing = refl;
       rising-over = refl;
@@ -148,3 +221,6 @@ calls =
       over-margins = (exact .least-400, exact .below-401, exact .least-400, exact .below-401);
       loss-margins = (exact .below-401, λ f. f (exact .least-400), exact .below-401, λ f. f (exact .least-400));
     }
+  where
+    all : frames long ≡ 88
+    all = refl

@@ -2,70 +2,75 @@
 -- of the demand, so that a clause of it cannot be weakened unseen. Rests on the demand's definitions alone.
 use Prim.Native.Nat.{ℕ, _+_, _-_, _≤_, _<_}
 use mathlib.Core.Path.{_≡_, refl, sym}
-use mathlib.Core.Bool.{Bool, true}
+use mathlib.Core.Bool.{true}
 use mathlib.Core.List.{List, [], _∷_, _++_, append-nil}
 use lib.IntN.{pos, _+ℤ_, _-ℤ_}
 use lib.Dec.{T}
 use lib.ListN.{getD}
 use borrow.Author.Tests.{le-leb}
 use Rattle.phasor.specs.Exact.{AtLeast, AtMost}
+use Rattle.relay.specs.declared.Settings.{Settings}
 use Rattle.relay.specs.Sound.{soundOf}
-use Rattle.relay.specs.Relay.{channelAt}
-use Rattle.history.specs.Calls.{Codes, Call, frame, refusal, framesIn, Implementation}
+use Rattle.history.specs.Calls.{Codes, Call, frame, refusalOf, acceptedFrames, Implementation}
 use Rattle.history.specs.History.{Event, channelHistory, frames, windowAt, FullRun}
-use Rattle.history.specs.Demand.{relayAfter, FrameAnswered, AcceptedSettings, Demanded}
+use Rattle.history.specs.Demand.{relayAfter, lossAfter, overAfter, RelayIs, FrameAnswered, CallAnswered, AcceptedSettings, Demanded}
 
-module _ (d : Implementation) (meets : Demanded d) (drop pickup : List ℕ) (settings : AcceptedSettings drop pickup) where
-  -- "Refusal 2 never occurs in it"
-  pub always-sound : (calls : List Call) → soundOf (relayAfter d drop pickup calls) ≡ true
-  always-sound calls = meets drop pickup settings calls .relay calls [] (sym (append-nil calls)) .sound
+module _ (d : Implementation) (meets : Demanded d) (settings : Settings) (ok : AcceptedSettings settings) where
+  -- what the relay is after a list of calls, and what a call answers after others
+  pub relay-says : (calls : List Call) → RelayIs d settings calls
+  relay-says calls = meets settings ok calls .relay calls [] (sym (append-nil calls))
+
+  pub answer-says : (past : List Call) (call : Call) → CallAnswered d settings past call
+  answer-says past call = meets settings ok (past ++ (call ∷ [])) .answers past call [] refl
+
+  -- "Refusal 2 never occurs in it"; the settings are those that were handed in
+  pub always-sound : (calls : List Call) → soundOf (relayAfter d settings calls) ≡ true
+  always-sound calls = relay-says calls .sound
+
+  pub keeps-settings : (calls : List Call) → relayAfter d settings calls .settings ≡ settings
+  keeps-settings calls = relay-says calls .kept
 
   -- ---- at an accepted frame after the calls `past`
-  module _ (past : List Call) (codes : Codes) (enable : ℕ) (taken : refusal (frame codes enable) ≡ 0) where
+  module _ (past : List Call) (codes : Codes) (enable : ℕ) (taken : refusalOf (frame codes enable) ≡ 0) where
     abbrev calls : List Call
     calls = past ++ (frame codes enable ∷ [])
 
     abbrev history : ℕ → List Event
     history c = channelHistory c calls
 
-    answered : FrameAnswered d drop pickup past calls (d .frame (relayAfter d drop pickup past) (codes .list) enable)
-    answered = meets drop pickup settings calls .answers past (frame codes enable) [] refl .0 taken
+    answered : FrameAnswered d settings past calls (d .frame (relayAfter d settings past) (codes .list) enable)
+    answered = answer-says past (frame codes enable) .0 taken
 
     abbrev amplitude : ℕ → ℕ
-    amplitude c = getD (d .frame (relayAfter d drop pickup past) (codes .list) enable .amplitudes) c 0
+    amplitude c = getD (d .frame (relayAfter d settings past) (codes .list) enable .amplitudes) c 0
 
     -- "each within 2 of Z"; "It is never above 10,700."
     pub within-2 : (c : ℕ) → c < 6
-        → AtLeast (windowAt (history c) (framesIn past)) (pos (amplitude c) -ℤ pos 2)
-        × AtMost (windowAt (history c) (framesIn past)) (pos (amplitude c) +ℤ pos 2)
+        → AtLeast (windowAt (history c) (acceptedFrames past)) (pos (amplitude c) -ℤ pos 2)
+        × AtMost (windowAt (history c) (acceptedFrames past)) (pos (amplitude c) +ℤ pos 2)
     within-2 c h = (answered .within c h .low, answered .within c h .high)
 
     pub never-above : (c : ℕ) → c < 6 → amplitude c ≤ 10700
     never-above = answered .bounded
 
-    -- channel c's loss latch, and its over latch, before the frame and after it
-    abbrev lossLatch : List Call → ℕ → Bool
-    lossLatch list c = channelAt (relayAfter d drop pickup list) c .«loss_latch»
-
-    abbrev overLatch : List Call → ℕ → Bool
-    overLatch list c = channelAt (relayAfter d drop pickup list) c .«over_latch»
-
     -- "if Z ≥ pickup + 2 (over) or Z < drop − 2 (loss) in each frame of a full run, the latch is on after its last frame"
     pub loss-clear : (c : ℕ) → c < 6 → (j : ℕ) → j + 16 ≡ frames (history c) → FullRun (history c) 16 j
-        → ((n : ℕ) → j ≤ n → n < j + 16 → ¬ AtLeast (windowAt (history c) n) (pos (getD drop c 0) -ℤ pos 2)) → T (lossLatch calls c)
+        → ((n : ℕ) → j ≤ n → n < j + 16 → ¬ AtLeast (windowAt (history c) n) (pos (getD (settings .drop) c 0) -ℤ pos 2))
+        → T (lossAfter d settings calls c)
     loss-clear c h = answered .lossMargins c h .clearMargin
 
     pub over-clear : (c : ℕ) → 3 ≤ c → c < 6 → (j : ℕ) → j + 4 ≡ frames (history c) → FullRun (history c) 4 j
-        → ((n : ℕ) → j ≤ n → n < j + 4 → AtLeast (windowAt (history c) n) (pos (getD pickup (c - 3) 0) +ℤ pos 2)) → T (overLatch calls c)
+        → ((n : ℕ) → j ≤ n → n < j + 4 → AtLeast (windowAt (history c) n) (pos (getD (settings .pickup) (c - 3) 0) +ℤ pos 2))
+        → T (overAfter d settings calls c)
     over-clear c k h = rw (le-leb 3 c k) at (answered .overMargins c k h .clearMargin)
 
     -- "where a latch went on in a frame, Z ≥ pickup − 2 or Z < drop + 2 held in each frame of the full run ending there"
-    pub loss-near : (c : ℕ) → c < 6 → ¬ T (lossLatch past c) → T (lossLatch calls c)
+    pub loss-near : (c : ℕ) → c < 6 → ¬ T (lossAfter d settings past c) → T (lossAfter d settings calls c)
         → (j : ℕ) × (j + 16 ≡ frames (history c)) × FullRun (history c) 16 j
-        × ((n : ℕ) → j ≤ n → n < j + 16 → ¬ AtLeast (windowAt (history c) n) (pos (getD drop c 0) +ℤ pos 2))
+        × ((n : ℕ) → j ≤ n → n < j + 16 → ¬ AtLeast (windowAt (history c) n) (pos (getD (settings .drop) c 0) +ℤ pos 2))
     loss-near c h = answered .lossMargins c h .nearMargin
 
-    pub over-near : (c : ℕ) → 3 ≤ c → c < 6 → ¬ T (overLatch past c) → T (overLatch calls c)
+    pub over-near : (c : ℕ) → 3 ≤ c → c < 6 → ¬ T (overAfter d settings past c) → T (overAfter d settings calls c)
         → (j : ℕ) × (j + 4 ≡ frames (history c)) × FullRun (history c) 4 j
-        × ((n : ℕ) → j ≤ n → n < j + 4 → AtLeast (windowAt (history c) n) (pos (getD pickup (c - 3) 0) -ℤ pos 2))
+        × ((n : ℕ) → j ≤ n → n < j + 4 → AtLeast (windowAt (history c) n) (pos (getD (settings .pickup) (c - 3) 0) -ℤ pos 2))
     over-near c k h = rw (le-leb 3 c k) at (answered .overMargins c k h .nearMargin)

@@ -1,5 +1,6 @@
 pub mod Accepted
 pub mod Channel
+pub mod Computed
 pub mod Refutations
 pub mod Relay
 pub mod Runs

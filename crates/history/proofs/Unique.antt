@@ -1,23 +1,25 @@
 -- On lists from accepted settings demand 3 leaves open the runs alone (and what a list of channels holds past the sixth, which the code's array
 -- has not): any implementation that meets it answers every call as our relay does, and hands back the same settings, age, slot, samples and
 -- latches. Rests on demand 3 for our relay, and on bytes being known by their bits.
-use Prim.Native.Nat.{ℕ, zero, suc, _+_, _/_, _%_, _^_, _<_}
+use Prim.Native.Nat.{ℕ, zero, suc, _/_, _%_, _^_, _<_}
 use native.Mathlib.Nat.{pow-succ', div-div-eq-div-mul}
 use native.Mathlib.Decide.{ℕ-discrete}
 use native.Mathlib.Omega.{arith}
 use mathlib.Core.Path.{_≡_, refl, sym, _∙_}
 use mathlib.Core.Logic.{_↔_}
 use mathlib.Core.Bool.{Bool, true, false}
-use mathlib.Core.List.{List, [], _∷_, _++_, append-nil}
+use mathlib.Core.List.{List}
 use lib.Dec.{T}
 use lib.Seq.{ext-getD}
 use borrow.Author.Tests.{eqb-true, eqb-false}
+use Rattle.relay.specs.declared.Settings.{Settings}
 use Rattle.relay.specs.declared.Relay.{Relay}
 use Rattle.relay.specs.declared.FrameAnswer.{FrameAnswer}
-use Rattle.relay.specs.Bits.{bitOf}
+use Rattle.frames.specs.Bits.{bitOf}
 use Rattle.relay.specs.Relay.{channelAt}
 use Rattle.history.specs.Calls.{Codes, Call, frame, reset, frameRefusedBy, resetRefusedBy, Implementation, theRelay}
-use Rattle.history.specs.Demand.{relayAfter, RelayIs, Answered, AcceptedSettings, Demanded}
+use Rattle.history.specs.Demand.{relayAfter, RelayIs, CallAnswered, AcceptedSettings, Demanded}
+use Rattle.history.proofs.Laws.{relay-says, answer-says}
 use Rattle.history.proofs.Theorem.{demand3}
 
 -- all of two relays but their runs
@@ -31,7 +33,7 @@ pub record SameButRuns (r s : Relay) : Type 0 where
 
 -- what two frames answer beside the relay
 pub record SameAnswer (a b : FrameAnswer) : Type 0 where
-  pub number : a .number ≡ b .number
+  pub refusal : a .refusal ≡ b .refusal
   pub amplitudes : a .amplitudes ≡ b .amplitudes
   pub output : a .output ≡ b .output
 
@@ -61,56 +63,50 @@ same-bits (suc n) x y h k e =
     (λ c l. half-bit x c ∙ e (suc c) (omega arith) ∙ sym (half-bit y c)) in
     omega (arith, low-bit x y (e 0 (omega arith)))
 
-module _ (d : Implementation) (meets : Demanded d) (drop pickup : List ℕ) (settings : AcceptedSettings drop pickup) where
-  pub same-relay : (calls : List Call) → SameButRuns (relayAfter d drop pickup calls) (relayAfter theRelay drop pickup calls)
-  same-relay calls =
-      record {
-        settings = theirs .settings ∙ sym (ours .settings);
-        age = theirs .age ∙ sym (ours .age);
-        slot = theirs .slot ∙ sym (ours .slot);
-        samples = λ c h. theirs .samples c h ∙ sym (ours .samples c h);
-        lossLatch = λ c h. same-test _ _ (theirs .lossLatch c h) (ours .lossLatch c h);
-        overLatch = λ c h. same-test _ _ (theirs .overLatch c h) (ours .overLatch c h);
-      }
-    where
-      theirs : RelayIs d drop pickup calls
-      theirs = meets drop pickup settings calls .relay calls [] (sym (append-nil calls))
+module _ (d : Implementation) (meets : Demanded d) (settings : Settings) (ok : AcceptedSettings settings) where
+  abbrev theirs : List Call → Relay
+  theirs calls = relayAfter d settings calls
 
-      ours : RelayIs theRelay drop pickup calls
-      ours = demand3 drop pickup settings calls .relay calls [] (sym (append-nil calls))
+  abbrev ours : List Call → Relay
+  ours calls = relayAfter theRelay settings calls
+
+  pub same-relay : (calls : List Call) → SameButRuns (theirs calls) (ours calls)
+  same-relay calls =
+      let t : RelayIs d settings calls = relay-says d meets settings ok calls in
+      let o : RelayIs theRelay settings calls = relay-says theRelay demand3 settings ok calls in
+      record {
+        settings = t .kept ∙ sym (o .kept);
+        age = t .age ∙ sym (o .age);
+        slot = t .slot ∙ sym (o .slot);
+        samples = λ c h. t .samples c h ∙ sym (o .samples c h);
+        lossLatch = λ c h. same-test _ _ (t .lossLatch c h) (o .lossLatch c h);
+        overLatch = λ c h. same-test _ _ (t .overLatch c h) (o .overLatch c h);
+      }
 
   pub same-frame : (past : List Call) (codes : Codes) (enable : ℕ)
-      → SameAnswer (d .frame (relayAfter d drop pickup past) (codes .list) enable) (theRelay .frame (relayAfter theRelay drop pickup past) (codes .list) enable)
-  same-frame past codes enable = by (ℕ-discrete (frameRefusedBy (codes .list) enable) 0)
+      → SameAnswer (d .frame (theirs past) (codes .list) enable) (theRelay .frame (ours past) (codes .list) enable)
+  same-frame past codes enable =
+      by (ℕ-discrete (frameRefusedBy (codes .list) enable) 0) (answer-says d meets settings ok past (frame codes enable))
+      (answer-says theRelay demand3 settings ok past (frame codes enable))
     where
-      theirs : Answered d drop pickup past (frame codes enable)
-      theirs = meets drop pickup settings (past ++ (frame codes enable ∷ [])) .answers past (frame codes enable) [] refl
-
-      ours : Answered theRelay drop pickup past (frame codes enable)
-      ours = demand3 drop pickup settings (past ++ (frame codes enable ∷ [])) .answers past (frame codes enable) [] refl
-
       by : Dec (frameRefusedBy (codes .list) enable ≡ 0)
-          → SameAnswer (d .frame (relayAfter d drop pickup past) (codes .list) enable) (theRelay .frame (relayAfter theRelay drop pickup past) (codes .list) enable)
-      by (yes e) =
+          → CallAnswered d settings past (frame codes enable) → CallAnswered theRelay settings past (frame codes enable)
+          → SameAnswer (d .frame (theirs past) (codes .list) enable) (theRelay .frame (ours past) (codes .list) enable)
+      by (yes e) t o =
           record {
-            number = theirs .0 e .number ∙ sym (ours .0 e .number);
-            amplitudes = ext-getD 0 _ _ (theirs .0 e .six ∙ sym (ours .0 e .six))
-                (λ c h. theirs .0 e .amplitude c (omega (arith, theirs .0 e .six)) ∙ sym (ours .0 e .amplitude c (omega (arith, theirs .0 e .six))));
-            output = same-bits 6 _ _ (theirs .0 e .sixBits) (ours .0 e .sixBits) (λ c h. same-test _ _ (theirs .0 e .output c h) (ours .0 e .output c h));
+            refusal = t .0 e .refusal ∙ sym (o .0 e .refusal);
+            amplitudes = ext-getD 0 _ _ (t .0 e .six ∙ sym (o .0 e .six))
+                (λ c h. t .0 e .amplitude c (omega (arith, t .0 e .six)) ∙ sym (o .0 e .amplitude c (omega (arith, t .0 e .six))));
+            output = same-bits 6 _ _ (t .0 e .sixBits) (o .0 e .sixBits) (λ c h. same-test _ _ (t .0 e .output c h) (o .0 e .output c h));
           }
-      by (no e) = rw (theirs .1 e, ours .1 e) (record { number = refl; amplitudes = refl; output = refl })
+      by (no e) t o = rw (t .1 e, o .1 e) (record { refusal = refl; amplitudes = refl; output = refl })
 
-  pub same-reset : (past : List Call) (mask : ℕ)
-      → d .reset (relayAfter d drop pickup past) mask .number ≡ theRelay .reset (relayAfter theRelay drop pickup past) mask .number
-  same-reset past mask = by (ℕ-discrete (resetRefusedBy mask) 0)
+  pub same-reset : (past : List Call) (mask : ℕ) → d .reset (theirs past) mask .refusal ≡ theRelay .reset (ours past) mask .refusal
+  same-reset past mask =
+      by (ℕ-discrete (resetRefusedBy mask) 0) (answer-says d meets settings ok past (reset mask))
+      (answer-says theRelay demand3 settings ok past (reset mask))
     where
-      theirs : Answered d drop pickup past (reset mask)
-      theirs = meets drop pickup settings (past ++ (reset mask ∷ [])) .answers past (reset mask) [] refl
-
-      ours : Answered theRelay drop pickup past (reset mask)
-      ours = demand3 drop pickup settings (past ++ (reset mask ∷ [])) .answers past (reset mask) [] refl
-
-      by : Dec (resetRefusedBy mask ≡ 0)
-          → d .reset (relayAfter d drop pickup past) mask .number ≡ theRelay .reset (relayAfter theRelay drop pickup past) mask .number
-      by (yes e) = theirs .0 e ∙ sym (ours .0 e)
-      by (no e) = rw (theirs .1 e, ours .1 e)
+      by : Dec (resetRefusedBy mask ≡ 0) → CallAnswered d settings past (reset mask) → CallAnswered theRelay settings past (reset mask)
+          → d .reset (theirs past) mask .refusal ≡ theRelay .reset (ours past) mask .refusal
+      by (yes e) t o = t .0 e ∙ sym (o .0 e)
+      by (no e) t o = rw (t .1 e, o .1 e)

@@ -8,37 +8,39 @@ use lib.IntN.{pos}
 use lib.Dec.{eqb}
 use lib.ListN.{getD}
 use borrow.Author.Tests.{eqb-true}
-use Rattle.phasor.specs.Window.{sampleOf, sampleSound, windowSound}
-use Rattle.phasor.proofs.Each.{every-true, getD-table}
-use Rattle.relay.specs.Bits.{bitOf}
-use Rattle.relay.proofs.Sound.{code-le}
-use Rattle.phasor.proofs.Samples.{sample-is-sound}
-use Rattle.history.specs.Calls.{Codes, Call, frame, reset, frameRefusedBy, accepted}
+use Rattle.lists.proofs.Each.{every-true, getD-table}
+use Rattle.frames.specs.Bits.{bitOf}
+use Rattle.frames.specs.Codes.{sampleSound}
+use Rattle.frames.proofs.Samples.{sample-is-sound}
+use Rattle.phasor.specs.Window.{windowSound}
+use Rattle.frames.proofs.Ranges.{codes-below}
+use Rattle.history.specs.Calls.{Codes, Call, frame, reset, frameRefusedBy, isAccepted}
 use Rattle.history.specs.History.{Event, sampled, cleared, inputOf, channelHistory, inputAt, latestInSlot, windowOf}
 use Rattle.history.proofs.Accepted.{frame-codes}
 
 abbrev SamplesSound : List Event → Type 0
 SamplesSound es = (n : ℕ) → sampleSound (inputAt es n .sample) ≡ true
 
-code-sound : (codes : Codes) (enable c : ℕ) → c < 6 → accepted (frame codes enable) ≡ true → sampleSound (sampleOf (getD (codes .list) c 0)) ≡ true
-code-sound codes enable c h e =
+-- an event that came or did not
+one-more : (b : Bool) (e : Event) (es : List Event) → (b ≡ true → SamplesSound (e ∷ [])) → SamplesSound es → SamplesSound (cond b (e ∷ []) [] ++ es)
+one-more true (sampled i) es s rest zero = s refl 0
+one-more true (sampled i) es s rest (suc n) = rest n
+one-more true cleared es s rest n = rest n
+one-more false e es s rest n = rest n
+
+code-sound : (c : ℕ) (codes : Codes) (enable : ℕ) → c < 6 → isAccepted (frame codes enable) ≡ true
+    → SamplesSound (sampled (inputOf c (codes .list) enable) ∷ [])
+code-sound c codes enable h e zero =
     sample-is-sound (getD (codes .list) c 0)
-    (code-le (codes .list) (frame-codes (codes .list) enable (eqb-true (frameRefusedBy (codes .list) enable) 0 e)) c h)
+    (codes-below (codes .list) (frame-codes (codes .list) enable (eqb-true (frameRefusedBy (codes .list) enable) 0 e)) c h)
+code-sound c codes enable h e (suc n) = refl
 
 history-sound : (c : ℕ) → c < 6 → (calls : List Call) → SamplesSound (channelHistory c calls)
 history-sound c h [] = λ n. refl
-history-sound c h (frame codes enable ∷ calls) = by (accepted (frame codes enable)) (code-sound codes enable c h) (history-sound c h calls)
-  where
-    by : (b : Bool) → (b ≡ true → sampleSound (sampleOf (getD (codes .list) c 0)) ≡ true) → SamplesSound (channelHistory c calls)
-        → SamplesSound (cond b (sampled (inputOf c (codes .list) enable) ∷ []) [] ++ channelHistory c calls)
-    by true s rest zero = s refl
-    by true s rest (suc n) = rest n
-    by false s rest n = rest n
-history-sound c h (reset mask ∷ calls) = by (accepted (reset mask) && bitOf mask c) (history-sound c h calls)
-  where
-    by : (b : Bool) → SamplesSound (channelHistory c calls) → SamplesSound (cond b (cleared ∷ []) [] ++ channelHistory c calls)
-    by true rest n = rest n
-    by false rest n = rest n
+history-sound c h (frame codes enable ∷ calls) =
+    one-more (isAccepted (frame codes enable)) _ (channelHistory c calls) (code-sound c codes enable h) (history-sound c h calls)
+history-sound c h (reset mask ∷ calls) =
+    one-more (isAccepted (reset mask) && bitOf mask c) cleared (channelHistory c calls) (λ e n. refl) (history-sound c h calls)
 
 latest-sound : (es : List Event) → SamplesSound es → (n k : ℕ) → sampleSound (latestInSlot es n k) ≡ true
 latest-sound es s zero k = refl
@@ -51,4 +53,5 @@ latest-sound es s (suc n) k = by (eqb (n % 8) k) (latest-sound es s n k)
 pub window-sound : (c : ℕ) → c < 6 → (calls : List Call) (n : ℕ) → windowSound (windowOf (channelHistory c calls) n) ≡ true
 unfolding windowSound windowOf
 window-sound c h calls n =
-    every-true 8 _ (λ k l. rw (getD-table 8 (latestInSlot (channelHistory c calls) n) (pos 0) k l) (latest-sound (channelHistory c calls) (history-sound c h calls) n k))
+    every-true 8 _ (λ k l. rw (getD-table 8 (latestInSlot (channelHistory c calls) n) (pos 0) k l)
+    (latest-sound (channelHistory c calls) (history-sound c h calls) n k))

@@ -1,5 +1,6 @@
 -- The latch history, read from the calls alone and never from the relay (document 01, "Frames, runs, latches, resets").
--- Rests on the lists of calls and the two kinds of run.
+-- 512, 8 and 72 stand as document 01's own numbers, as in Demand and for its reason. Rests on the lists of calls and
+-- the two kinds of run.
 use Prim.Native.Nat.{ℕ, zero, suc, _+_, _%_, _≤_, _<_}
 use mathlib.Core.Path.{_≡_}
 use mathlib.Core.Bool.{Bool, false, _&&_, cond}
@@ -7,10 +8,10 @@ use mathlib.Core.List.{List, [], _∷_, _++_}
 use lib.IntN.{ℤ, pos, _-ℤ_}
 use lib.Dec.{T, eqb}
 use lib.ListN.{length, getD}
-use Rattle.phasor.specs.Each.{table}
-use Rattle.relay.specs.Bits.{bitOf}
+use Rattle.lists.specs.Each.{table}
+use Rattle.frames.specs.Bits.{bitOf}
 use Rattle.relay.specs.Settings.{Kind}
-use Rattle.history.specs.Calls.{Call, frame, reset, accepted}
+use Rattle.history.specs.Calls.{Call, frame, reset, isAccepted}
 
 -- What an accepted frame is to one channel: its sample, its enable bit and bit 6.
 pub record Input : Type 0 where
@@ -18,8 +19,8 @@ pub record Input : Type 0 where
   pub channelBit : Bool
   pub bit6 : Bool
 
--- What an accepted call is to one channel. "A refused call .. has no frame number and separates nothing", and a reset that does not
--- name the channel is nothing to it.
+-- What an accepted call is to one channel. "A refused call .. has no frame number and separates nothing", and a reset
+-- that does not name the channel is nothing to it.
 pub data Event : Type 0 where
   sampled : Input → Event
   cleared : Event  -- a reset that names it
@@ -30,8 +31,9 @@ inputOf c codes enable =
     record { sample = pos (getD codes c 0) -ℤ pos 512; channelBit = bitOf enable c; bit6 = bitOf enable 6 }
 
 abbrev pub eventsOf : ℕ → Call → List Event
-eventsOf c (frame codes enable) = cond (accepted (frame codes enable)) (sampled (inputOf c (codes .list) enable) ∷ []) []
-eventsOf c (reset mask) = cond (accepted (reset mask) && bitOf mask c) (cleared ∷ []) []
+eventsOf c (frame codes enable) =
+    cond (isAccepted (frame codes enable)) (sampled (inputOf c (codes .list) enable) ∷ []) []
+eventsOf c (reset mask) = cond (isAccepted (reset mask) && bitOf mask c) (cleared ∷ []) []
 
 -- the calls as channel c meets them
 abbrev pub channelHistory : ℕ → List Call → List Event
@@ -70,8 +72,8 @@ abbrev pub latestInSlot : List Event → ℕ → ℕ → ℤ
 latestInSlot es zero k = pos 0
 latestInSlot es (suc n) k = cond (eqb (n % 8) k) (inputAt es n .sample) (latestInSlot es n k)
 
--- the window that the first n frames leave; "at accepted frame n a channel's window has in slot k the sample of the latest accepted
--- frame up to n whose number mod 8 is k"
+-- the window that the first n frames leave; "at accepted frame n a channel's window has in slot k the sample of the
+-- latest accepted frame up to n whose number mod 8 is k"
 unfoldable pub windowOf : List Event → ℕ → List ℤ
 windowOf es n = table 8 (latestInSlot es n)
 
@@ -86,8 +88,8 @@ Counted es n = 72 ≤ n
 abbrev pub Enabled : List Event → ℕ → Type 0
 Enabled es n = T (inputAt es n .channelBit && inputAt es n .bit6)
 
--- Frame n can stand in a full run (a term of document 01) that begins at frame j: "counted frames with the channel enabled, none
--- separated by an accepted reset naming it".
+-- Frame n can stand in a full run (a term of document 01) that begins at frame j: "counted frames with the channel
+-- enabled, none separated by an accepted reset naming it".
 pub record InRun (es : List Event) (j n : ℕ) : Type 0 where
   pub counted : Counted es n
   pub enabled : Enabled es n
@@ -102,7 +104,8 @@ pub record FullRun (es : List Event) (len j : ℕ) : Type 0 where
   pub within : j + len ≤ frames es
   pub each : InEach j len (InRun es j)
 
--- "A full run that meets its level lies wholly after the last accepted reset naming the channel, or after the start if there is none."
+-- "A full run that meets its level lies wholly after the last accepted reset naming the channel, or after the start if
+-- there is none."
 pub record FullRunMeeting (kind : Kind) (es : List Event) (j : ℕ) : Type 0 where
   pub run : FullRun es (kind .len) j
   pub meets : InEach j (kind .len) (λ n. T (kind .meets (windowAt es n)))

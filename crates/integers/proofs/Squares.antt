@@ -1,4 +1,5 @@
--- Squares and lengths of vectors of natural numbers: monotony both ways, Cauchy's inequality, the triangle inequality, the whole part of a square root.
+-- Squares and lengths of vectors of natural numbers: monotony both ways, Cauchy's inequality, the triangle inequality, the whole part of a square
+-- root.
 -- `omega` multiplies products out but never multiplies facts, so these hand it the products. Rests on nothing of the project.
 use mathlib.Core.Path.{_≡_}
 use mathlib.Core.Logic.{_⊎_, inl, inr, ⊎-elim}

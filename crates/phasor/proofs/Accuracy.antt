@@ -1,5 +1,5 @@
 -- A window's Re and Im are 16384 A + 11585 B and 16384 C + 11585 D, and the samples bound their length. With Vector this is the accuracy of m,
--- and that CORDIC starts from a short point. Rests on Vector and Samples.
+-- and that the steps fit from where CORDIC starts. Rests on Vector and Samples.
 use mathlib.Core.Path.{_≡_}
 use mathlib.Core.Bool.{true}
 use mathlib.Core.Logic.{⊎-elim}
@@ -14,9 +14,9 @@ use Rattle.integers.proofs.Squares.{rearrange, le-or-lt}
 use Rattle.integers.proofs.Diff.{Diff, plus, minus, shift, of, of-pos, add, sub, mul, square, agree}
 use Rattle.phasor.specs.Window.{sampleAt, windowSound}
 use Rattle.phasor.specs.Fourier.{cosines, sines, sumOver, re, im}
-use Rattle.phasor.specs.Cordic.{startOf, lastX, amplitudeOf}
+use Rattle.phasor.specs.Cordic.{startOf, lastX, amplitudeOf, mostAmplitude}
 use Rattle.phasor.specs.Exact.{A, B, C, D, Within, AtLeast, AtMost}
-use Rattle.phasor.specs.Lanes.{Short}
+use Rattle.phasor.specs.Internal.{StepsFit}
 use Rattle.phasor.proofs.Samples.{sample-at, code-of}
 use Rattle.phasor.proofs.Vector.{X, Y, length², along, squared, within, ceiling}
 
@@ -106,15 +106,15 @@ module _ (w : List ℤ) (sound : windowSound w ≡ true) where
       (omega arith) (omega arith) (omega arith) (omega arith)
 
   -- CORDIC's start is inside the range of its 32-bit steps
-  pub start-short : Short (startOf w)
+  pub start-fits : StepsFit (startOf w)
   unfolding startOf
-  start-short = record { right = tt; near = rw (re-is w, im-is w) (le-trans (reach .long) (lit≤ tt)) }
+  start-fits = record { right = tt; near = rw (re-is w, im-is w) (le-trans (reach .long) (lit≤ tt)) }
 
-  pub largest : amplitudeOf w ≤ 10700
+  pub largest : amplitudeOf w ≤ mostAmplitude
   unfolding amplitudeOf lastX startOf
   largest = rw (re-is w, im-is w) (least (ceiling (A w) (B w) (C w) (D w) 43797732 (reach .long) (lit≤ tt)))
     where
-      least : {m : ℕ} → 4096 * m ≤ 43797732 + 128 → m ≤ 10700
+      least : {m : ℕ} → 4096 * m ≤ 43797732 + 128 → m ≤ mostAmplitude
       least h = omega arith
 
   pub near-exact : Within w (amplitudeOf w)

@@ -2,7 +2,7 @@
 -- Rests on Rule, and on nothing of CORDIC.
 use mathlib.Core.Path.{_≡_, refl, ap, subst}
 use mathlib.Core.Logic.{_⊎_, ⊎-elim}
-use Prim.Native.Nat.{ℕ, zero, suc, _+_, _*_, _-_, _≤_, _<_}
+use Prim.Native.Nat.{ℕ, zero, suc, _+_, _*_, _≤_, _<_}
 use native.Mathlib.Nat.{mul-le-mul, mul-le-mul-left, mul-le-mul-right, le-of-mul-le-mul-left}
 use native.Mathlib.Omega.{arith}
 use lib.Dec.{lit≤, lit<}
@@ -29,7 +29,8 @@ by-more c d r q p e h =
 -- a fraction not above √2, for Q = q not negative: R + q d/c ≥ 0 is enough
 weak : (c d : ℕ) {r : ℤ} {u v : ℕ} (q : ℕ) → 0 < c → d * d ≤ 2 * (c * c) → Diff r u v → c * v ≤ c * u + d * q → Rule r (pos q)
 weak c d {r = pos r} q p e f h = gives-rule (pos r) (pos q) tt
-weak c d {r = negsuc r} {u} {v} q p e f h = gives-rule (negsuc r) (pos q) (by-less c d (suc r) q p e (omega (arith, ap (λ (t : ℕ). c * t) (down-by f))))
+weak c d {r = negsuc r} {u} {v} q p e f h =
+    gives-rule (negsuc r) (pos q) (by-less c d (suc r) q p e (omega (arith, ap (λ (t : ℕ). c * t) (down-by f))))
 
 -- a fraction not below √2, for Q = −q: R − q d/c ≥ 0 is enough
 strong : (c d : ℕ) {r : ℤ} {u v : ℕ} (q : ℕ) → 0 < c → 2 * (c * c) ≤ d * d → Diff r u v → c * v + d * q ≤ c * u → Rule r (negℤ (pos q))

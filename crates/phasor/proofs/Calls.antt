@@ -12,13 +12,15 @@ use lib.IntN.{ℤ, pos, negℤ, _*ℤ_}
 use lib.Signed.{leZ, ltZ, leZ-yes, ltZ-yes}
 use Rattle.phasor.specs.declared.Point.{Point}
 use Rattle.phasor.specs.declared.Window.{Window}
-use Rattle.phasor.specs.Each.{every, table}
-use Rattle.phasor.specs.Window.{sampleOf, sampleAt, windowSound}
-use Rattle.phasor.specs.Fourier.{cosines, sines, sumOver, re, im}
-use Rattle.phasor.specs.Cordic.{startAt, stepAt, steps, startOf, lastX, scaledOf, amplitudeOf}
+use Rattle.lists.specs.Each.{every, table}
+use Rattle.frames.specs.Codes.{sampleOf}
+use Rattle.phasor.specs.Window.{sampleAt, windowSound}
+use Rattle.phasor.specs.Fourier.{re, im}
+use Rattle.phasor.specs.Cordic.{stepAt, steps, startOf, lastX, scaledOf, amplitudeOf}
 use Rattle.phasor.specs.Exact.{A, B, C, D, P, Q, Rule, both, larger-r, larger-q, AtLeast, AtMost, Below, Within}
 use Rattle.phasor.specs.Lanes.{channelWindow, WindowsSound, NeverAbove}
-use Rattle.phasor.proofs.Each.{every-at}
+use Rattle.lists.proofs.Each.{every-at}
+use Rattle.phasor.proofs.Computed.{computed}
 use Rattle.phasor.proofs.Figures.{zeros, inSlot0}
 
 -- a window of zeros but for slot k
@@ -88,7 +90,7 @@ pub record AmplitudeCalls : Type 0 where
   pub m-largest : amplitudeOf largest ≡ 10692
 
 pub calls : AmplitudeCalls
-unfolding every table windowSound cosines sines sumOver re im stepAt steps startOf lastX scaledOf amplitudeOf
+unfolding computed
 calls =
     record {
       samples = refl;

@@ -5,8 +5,8 @@ use mathlib.Core.Path.{_≡_, refl}
 use mathlib.Core.List.{List, [], _∷_}
 use lib.ListN.{replicate}
 use lib.IntN.{ℤ, pos, negℤ}
-use Rattle.phasor.specs.Fourier.{cosines, sines, sumOver, re, im}
-use Rattle.phasor.specs.Cordic.{stepAt, steps, startOf, lastX, scaledOf, amplitudeOf}
+use Rattle.phasor.specs.Cordic.{lastX, amplitudeOf}
+use Rattle.phasor.proofs.Computed.{computed}
 
 -- "eight zero samples", "eight samples 100"
 abbrev pub zeros : List ℤ
@@ -36,5 +36,5 @@ pub record Figures : Type 0 where
   pub m-wave : amplitudeOf wave ≡ 1603
 
 pub figures : Figures
-unfolding cosines sines sumOver re im stepAt steps startOf lastX scaledOf amplitudeOf
+unfolding computed
 figures = record { x-slot1 = refl; x-slot0 = refl; m-slot0 = refl; m-slot1 = refl; m-zeros = refl; m-hundreds = refl; m-wave = refl }

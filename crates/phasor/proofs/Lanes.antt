@@ -1,6 +1,6 @@
 -- Lanes that a loop fills one after the other: the invariants of `starts`, `ends` and `amplitudes`, and how each begins, goes on and is done.
--- Rests on Accuracy (a window's start is short) and Magnitude (a short point stays in range).
-use Prim.Native.Nat.{ℕ, zero, suc, _+_, _<_, _≤_}
+-- Rests on Accuracy (the steps fit from a window's start) and Magnitude (where they fit, each point is in range).
+use Prim.Native.Nat.{ℕ, zero, suc, _+_, _^_, _<_, _≤_}
 use mathlib.Core.Path.{_≡_, refl, ap, _∙_, subst⁻¹}
 use mathlib.Core.List.{List}
 use native.Mathlib.Decide.{ℕ-discrete}
@@ -16,13 +16,14 @@ use Rattle.integers.proofs.Holds.{held}
 use Rattle.phasor.specs.declared.Point.{Point}
 use Rattle.phasor.specs.declared.Points.{Points}
 use Rattle.phasor.specs.declared.Window.{Window}
-use Rattle.phasor.specs.Each.{table}
-use Rattle.phasor.specs.Cordic.{startOf, steps, lastX, endOf, scaledOf, amplitudeOf}
-use Rattle.phasor.specs.Lanes.{channelWindow, WindowsSound, NeverAbove, pointAt, Short, AllShort, StartsOf, EndsOf}
-use Rattle.phasor.proofs.Each.{table-more, table-whole, table-same, getD-table}
+use Rattle.lists.specs.Each.{table}
+use Rattle.phasor.specs.Cordic.{startAt, startOf, steps, lastX, endOf, scaledOf, amplitudeOf}
+use Rattle.phasor.specs.Lanes.{channelWindow, WindowsSound, NeverAbove}
+use Rattle.phasor.specs.Internal.{sumsOf, pointAt, StepsFit, AllStepsFit, StartsOf, EndsOf}
+use Rattle.lists.proofs.Each.{table-more, table-whole, table-same, getD-table}
 use Rattle.phasor.proofs.Trace.{not-negative}
 use Rattle.phasor.proofs.Magnitude.{Ranged, ranged}
-use Rattle.phasor.proofs.Accuracy.{start-short, largest}
+use Rattle.phasor.proofs.Accuracy.{start-fits, largest}
 
 -- ---- numbers in range are read back from their bits
 
@@ -35,13 +36,17 @@ back-is z h = held {w = w32} h (lit< tt) .reads
 point-back : (q : Point) → Ranged q → _≡_ {A = Point} (record { x = back (q .x); y = back (q .y) }) q
 point-back q r = λ i. record { x = back-is (q .x) (r .x) i; y = back-is (q .y) (r .y) i }
 
-short-ranged : (q : Point) → Short q → Ranged q
+fits-ranged : (q : Point) → StepsFit q → Ranged q
 unfolding steps
-short-ranged q s = ranged q s 0 (lit≤ tt)
+fits-ranged q s = ranged q s 0 (lit≤ tt)
+
+-- sums are as large as their sizes
+sums-ranged : (q : Point) → StepsFit (startAt (q .x) (q .y)) → Ranged q
+sums-ranged q s = let r = fits-ranged (startAt (q .x) (q .y)) s in record { x = r .x; y = r .y }
 
 -- ---- one lane is set, and the others stay
 
-set-lane : (P : ℕ → Point → Type 0) (p : Points) (c : ℕ) (q : Point) → c < length (p .x) → c < length (p .y) → P c q →
+set-lane : (P : ℕ → Point → Type 0) (p : Points) (c : ℕ) (q : Point) → c < length (p .x) → c < length (p .y) → P c (startAt (q .x) (q .y)) →
     (k : ℕ) → ((k ≡ c → ⊥) → P k (pointAt p k)) → P k (pointAt (record { x = set (p .x) c (q .x); y = set (p .y) c (q .y) }) k)
 set-lane P p c q hx hy new k old = elim (ℕ-discrete k c) [
   | yes e ↦ subst⁻¹ (λ (j : ℕ). P j (pointAt (record { x = set (p .x) c (q .x); y = set (p .y) c (q .y) }) j)) e
@@ -68,36 +73,54 @@ starts-begin ws = record {
   at-most = omega arith;
   x-long = refl;
   y-long = refl;
-  filled = record { starts = λ k l. absurd (omega arith); short = λ k. rw (zero-lane 8 k) (record { right = tt; near = lit≤ tt }) };
+  filled = record { starts = λ k l. absurd (omega arith); fit = λ k. rw (zero-lane 8 k) (record { right = tt; near = lit≤ tt }) };
 }
 
-pub starts-again : (ws : List Window) (c : ℕ) (p : Points) (s : Point) → WindowsSound ws → Starting ws c p → c < 6 → s ≡ startOf (channelWindow ws c) →
+pub starts-again : (ws : List Window) (c : ℕ) (p : Points) (s : Point) → WindowsSound ws → Starting ws c p → c < 6 → s ≡ sumsOf (channelWindow ws c) →
     Starting ws (c + 1) (record { x = set (p .x) c (back (s .x)); y = set (p .y) c (back (s .y)) })
+unfolding sumsOf startOf
 starts-again ws c p s sound inv l e =
-    let short : Short s = rw e (start-short (channelWindow ws c) (sound c l)) in
-    let new = point-back s (short-ranged s short) in
-    let q : Point = record { x = back (s .x); y = back (s .y) } in record {
+    let is : startAt (s .x) (s .y) ≡ startOf (channelWindow ws c) = ap (λ (u : Point). startAt (u .x) (u .y)) e in
+    let fits : StepsFit (startAt (s .x) (s .y)) = rw is (start-fits (channelWindow ws c) (sound c l)) in
+    let q : Point = record { x = back (s .x); y = back (s .y) } in
+    let same : q ≡ s = point-back s (sums-ranged s fits) in
+    let new : startAt (q .x) (q .y) ≡ startAt (s .x) (s .y) = ap (λ (u : Point). startAt (u .x) (u .y)) same in record {
       at-most = omega arith;
       x-long = length-set (p .x) c (back (s .x)) ∙ inv .x-long;
       y-long = length-set (p .y) c (back (s .y)) ∙ inv .y-long;
       filled = record {
         starts = λ k m. set-lane (λ (j : ℕ) (r : Point). j < c + 1 → r ≡ startOf (channelWindow ws j)) p c q (omega arith) (omega arith)
-            (λ h. new ∙ e) k (λ n h. inv .filled .starts k (omega arith)) m;
-        short = λ k. set-lane (λ (j : ℕ) (r : Point). Short r) p c q (omega arith) (omega arith) (rw new short) k (λ n. inv .filled .short k);
+            (λ h. new ∙ is) k (λ n h. inv .filled .starts k (omega arith)) m;
+        fit = λ k. set-lane (λ (j : ℕ) (r : Point). StepsFit r) p c q (omega arith) (omega arith) (rw new fits) k (λ n. inv .filled .fit k);
       };
     }
 
 -- ---- the ends
 
--- a lane as CORDIC is given it
+-- a lane's sums, and as they are read
+abbrev held-at : Points → ℕ → Point
+held-at p c = record { x = getD (p .x) c (pos 0); y = getD (p .y) c (pos 0) }
+
 abbrev lane : Points → ℕ → Point
 lane p c = record { x = back (getD (p .x) c (pos 0)); y = back (getD (p .y) c (pos 0)) }
 
-lane-is : (p : Points) (c : ℕ) → AllShort p → lane p c ≡ pointAt p c
-lane-is p c s = point-back (pointAt p c) (short-ranged (pointAt p c) (s c))
+lane-is : (p : Points) (c : ℕ) → AllStepsFit p → lane p c ≡ held-at p c
+lane-is p c s = point-back (held-at p c) (sums-ranged (held-at p c) (s c))
 
-pub lane-short : (p : Points) (c : ℕ) → AllShort p → Short (lane p c)
-lane-short p c s = rw (lane-is p c s) (s c)
+lane-ranged : (p : Points) (c : ℕ) → AllStepsFit p → Ranged (lane p c)
+lane-ranged p c s = rw (lane-is p c s) (sums-ranged (held-at p c) (s c))
+
+pub lane-x-fits : (p : Points) (c : ℕ) → AllStepsFit p → natAbs (lane p c .x) < 2 ^ 31
+lane-x-fits p c s = omega (arith, lane-ranged p c s .x)
+
+pub lane-y-fits : (p : Points) (c : ℕ) → AllStepsFit p → natAbs (lane p c .y) < 2 ^ 31
+lane-y-fits p c s = omega (arith, lane-ranged p c s .y)
+
+start-is : (p : Points) (c : ℕ) (q : Point) → AllStepsFit p → q ≡ startAt (lane p c .x) (lane p c .y) → q ≡ pointAt p c
+start-is p c q s e = e ∙ ap (λ (u : Point). startAt (u .x) (u .y)) (lane-is p c s)
+
+pub lane-fits : (p : Points) (c : ℕ) (q : Point) → AllStepsFit p → q ≡ startAt (lane p c .x) (lane p c .y) → StepsFit q
+lane-fits p c q s e = rw (start-is p c q s e) (s c)
 
 pub record Ending (p : Points) (c : ℕ) (e : List ℤ) : Type 0 where
   pub at-most : c ≤ 8
@@ -107,16 +130,16 @@ pub record Ending (p : Points) (c : ℕ) (e : List ℤ) : Type 0 where
 pub ends-begin : (p : Points) → Ending p 0 (replicate 8 (pos 0))
 ends-begin p = record { at-most = omega arith; long = refl; filled = λ k l. absurd (omega arith) }
 
-pub ends-again : (p : Points) (c : ℕ) (e : List ℤ) (q : Point) → AllShort p → Ending p c e → c < 8 → q ≡ steps 16 (lane p c) →
-    Ending p (c + 1) (set e c (back (q .x)))
-ends-again p c e q s inv l h =
-    let is : q ≡ steps 16 (pointAt p c) = h ∙ ap (steps 16) (lane-is p c s) in
+pub ends-again : (p : Points) (c : ℕ) (e : List ℤ) (t q : Point) → AllStepsFit p → Ending p c e → c < 8 →
+    t ≡ startAt (lane p c .x) (lane p c .y) → q ≡ steps 16 t → Ending p (c + 1) (set e c (back (q .x)))
+ends-again p c e t q s inv l g h =
+    let is : q ≡ steps 16 (pointAt p c) = h ∙ ap (steps 16) (start-is p c t s g) in
     let r : natAbs (q .x) ≤ 79100000 = rw is (ranged (pointAt p c) (s c) 16 (lit≤ tt) .x) in
     let new : back (q .x) ≡ endOf (pointAt p c) = back-is (q .x) r ∙ ap (λ (u : Point). u .x) is in record {
       at-most = omega arith;
       long = length-set e c (back (q .x)) ∙ inv .long;
       filled = λ k m. elim (ℕ-discrete k c) [
-        | yes g ↦ subst⁻¹ (λ (j : ℕ). getD (set e c (back (q .x))) j (pos 0) ≡ endOf (pointAt p j)) g
+        | yes f ↦ subst⁻¹ (λ (j : ℕ). getD (set e c (back (q .x))) j (pos 0) ≡ endOf (pointAt p j)) f
             (getD-set-same e c (back (q .x)) (pos 0) (omega arith) ∙ new)
         | no n ↦ getD-set-other e c k (back (q .x)) (pos 0) n ∙ inv .filled k (omega arith)
       ];
@@ -131,13 +154,13 @@ module _ (ws : List Window) (p : Points) (e : List ℤ) (starts : StartsOf ws 6 
   end-is k l = ends k (omega arith) ∙ ap endOf (starts .starts k l)
 
   end-size : (k : ℕ) → k < 6 → natAbs (getD e k (pos 0)) ≤ 79100000
-  end-size k l = rw (ends k (omega arith)) (ranged (pointAt p k) (starts .short k) 16 (lit≤ tt) .x)
+  end-size k l = rw (ends k (omega arith)) (ranged (pointAt p k) (starts .fit k) 16 (lit≤ tt) .x)
 
   end-back : (k : ℕ) → k < 6 → back (getD e k (pos 0)) ≡ getD e k (pos 0)
   end-back k l = back-is (getD e k (pos 0)) (end-size k l)
 
   pub end-right : (k : ℕ) → k < 6 → T (nonNeg (back (getD e k (pos 0))))
-  end-right k l = rw (end-back k l, ends k (omega arith)) (not-negative (pointAt p k) (starts .short k .right) 16)
+  end-right k l = rw (end-back k l, ends k (omega arith)) (not-negative (pointAt p k) (starts .fit k .right) 16)
 
   pub end-small : (k : ℕ) → k < 6 → natAbs (back (getD e k (pos 0))) ≤ 79100000
   end-small k l = rw (end-back k l) (end-size k l)

@@ -84,7 +84,8 @@ module _ (u g k x y x′ y′ : ℕ) (s : Step k x y x′ y′) (pos : 0 < k) (t
       let long : a * a + b * b ≤ (k * t) * (k * t) = omega (arith, mul-le-mul-left (k * k) h) in
       let tri : (a + u * k) * (a + u * k) + (b + u * k) * (b + u * k) ≤ (k * t + k * g) * (k * t + k * g) =
       triangle a b (u * k) (u * k) (k * t) (k * g) long error in
-      let cx : (u * (k * x + y)) * (u * (k * x + y)) ≤ (a + u * k) * (a + u * k) = sq-mono (omega (arith, mul-le-mul-left u (le-of-lt (s .x-above)))) in
+      let cx : (u * (k * x + y)) * (u * (k * x + y)) ≤ (a + u * k) * (a + u * k) =
+      sq-mono (omega (arith, mul-le-mul-left u (le-of-lt (s .x-above)))) in
       let cy : (u * z) * (u * z) ≤ (b + u * k) * (b + u * k) = sq-mono (omega (arith, mul-le-mul-left u (le-of-lt (s .y-above)))) in
       le-of-mul-le-mul-left {k = k * k + 1}
       (over k u x y z t g f (through cx cy tri) (turned k x y z (s .gap)) e) (omega arith)

@@ -1,4 +1,4 @@
-pub mod Each
+pub mod Computed
 pub mod Figures
 pub mod Calls
 pub mod Samples

@@ -14,10 +14,10 @@ use lib.IntN.{pos, natAbs}
 use lib.Signed.{nonNeg, pos-natAbs}
 use Rattle.integers.proofs.Squares.{sq-cancel, sq-mono}
 use Rattle.phasor.specs.declared.Point.{Point}
-use Rattle.phasor.specs.Each.{every}
+use Rattle.lists.specs.Each.{every}
 use Rattle.phasor.specs.Cordic.{steps, endOf, scaledOf}
-use Rattle.phasor.specs.Lanes.{Short}
-use Rattle.phasor.proofs.Each.{every-at, and-left, and-right}
+use Rattle.phasor.specs.Internal.{StepsFit}
+use Rattle.lists.proofs.Each.{every-at, and-left, and-right}
 use Rattle.phasor.proofs.Lengths.{Step, up, down, linear}
 use Rattle.phasor.proofs.Trace.{xs, ys, trace, not-negative, pow-pos}
 
@@ -42,16 +42,24 @@ abbrev gap : ℕ
 gap = 23726567
 
 upα : ℕ → ℕ
-upα i = getD (16777216 ∷ 23726567 ∷ 26527109 ∷ 27343519 ∷ 27556313 ∷ 27610082 ∷ 27623561 ∷ 27626933 ∷ 27627777 ∷ 27627988 ∷ 27628041 ∷ 27628055 ∷ 27628059 ∷ 27628060 ∷ 27628061 ∷ 27628062 ∷ 27628063 ∷ []) i 0
+upα i = getD (
+    16777216 ∷ 23726567 ∷ 26527109 ∷ 27343519 ∷ 27556313 ∷ 27610082 ∷ 27623561 ∷ 27626933 ∷ 27627777
+    ∷ 27627988 ∷ 27628041 ∷ 27628055 ∷ 27628059 ∷ 27628060 ∷ 27628061 ∷ 27628062 ∷ 27628063 ∷ []) i 0
 
 upβ : ℕ → ℕ
-upβ i = getD (0 ∷ 23726567 ∷ 50253676 ∷ 75526871 ∷ 99841205 ∷ 123762585 ∷ 147549569 ∷ 171294147 ∷ 195025942 ∷ 218753997 ∷ 242480982 ∷ 266207665 ∷ 289934264 ∷ 313660840 ∷ 337387410 ∷ 361113978 ∷ 384840546 ∷ []) i 0
+upβ i = getD (
+    0 ∷ 23726567 ∷ 50253676 ∷ 75526871 ∷ 99841205 ∷ 123762585 ∷ 147549569 ∷ 171294147 ∷ 195025942
+    ∷ 218753997 ∷ 242480982 ∷ 266207665 ∷ 289934264 ∷ 313660840 ∷ 337387410 ∷ 361113978 ∷ 384840546 ∷ []) i 0
 
 dnα : ℕ → ℕ
-dnα i = getD (10188327 ∷ 14408470 ∷ 16109159 ∷ 16604941 ∷ 16734164 ∷ 16766816 ∷ 16775000 ∷ 16777047 ∷ 16777558 ∷ 16777686 ∷ 16777718 ∷ 16777726 ∷ 16777728 ∷ 16777728 ∷ 16777728 ∷ 16777728 ∷ 16777728 ∷ []) i 0
+dnα i = getD (
+    10188327 ∷ 14408470 ∷ 16109159 ∷ 16604941 ∷ 16734164 ∷ 16766816 ∷ 16775000 ∷ 16777047 ∷ 16777558
+    ∷ 16777686 ∷ 16777718 ∷ 16777726 ∷ 16777728 ∷ 16777728 ∷ 16777728 ∷ 16777728 ∷ 16777728 ∷ []) i 0
 
 dnβ : ℕ → ℕ
-dnβ i = getD (386515756 ∷ 522889257 ∷ 560881394 ∷ 554416740 ∷ 535004765 ∷ 512322110 ∷ 488845639 ∷ 465178741 ∷ 441466369 ∷ 417743170 ∷ 394017399 ∷ 370291019 ∷ 346564496 ∷ 322837939 ∷ 299111374 ∷ 275384807 ∷ 251658240 ∷ []) i 0
+dnβ i = getD (
+    386515756 ∷ 522889257 ∷ 560881394 ∷ 554416740 ∷ 535004765 ∷ 512322110 ∷ 488845639 ∷ 465178741 ∷ 441466369
+    ∷ 417743170 ∷ 394017399 ∷ 370291019 ∷ 346564496 ∷ 322837939 ∷ 299111374 ∷ 275384807 ∷ 251658240 ∷ []) i 0
 
 -- c (αn + β)² ≤ d (α′n + γ)², by the coefficients
 abbrev fits : (c d α β α′ γ : ℕ) → Bool
@@ -213,7 +221,7 @@ pub record Ranged (q : Point) : Type 0 where
   pub x : natAbs (q .x) ≤ 79100000
   pub y : natAbs (q .y) ≤ 79100000
 
-pub ranged : (p : Point) → Short p → (j : ℕ) → j ≤ 16 → Ranged (steps j p)
+pub ranged : (p : Point) → StepsFit p → (j : ℕ) → j ≤ 16 → Ranged (steps j p)
 unfolding upα upβ xs ys
 ranged p s j l =
     let f = forth p (s .right) 48000000 j l (s .near) in

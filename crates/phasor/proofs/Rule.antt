@@ -36,5 +36,6 @@ gives-rule (negsuc r) (pos zero) h = absurd (never h)
     never : suc r * suc r ≤ 2 * (0 * 0) → ⊥
     never h = omega arith
 gives-rule (negsuc r) (pos (suc q)) h =
-    larger-q (record { lt = tt }) (record { lt = lt→ltb 0 (suc q) (suc-le-suc zero-le) }) (record { le = le→leb (suc r * suc r) (2 * (suc q * suc q)) h })
+    larger-q (record { lt = tt }) (record { lt = lt→ltb 0 (suc q) (suc-le-suc zero-le) })
+    (record { le = le→leb (suc r * suc r) (2 * (suc q * suc q)) h })
 gives-rule (negsuc r) (negsuc q) h = absurd h

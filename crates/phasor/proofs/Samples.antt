@@ -1,46 +1,26 @@
--- Samples: the sample of a code fits 16 bits and is sound, and each sample of a sound window is a code less 512.
--- Rests on Each.
+-- The samples of a window: each of a sound window's is a code less 512, and they stay sound where a sound one is stored.
+-- Rests on the laws of `every`.
 use Prim.Native.Nat.{ℕ, zero, suc, _+_, _-_, _<_, _≤_, _^_}
-use mathlib.Core.Path.{_≡_, refl}
-use mathlib.Core.Bool.{Bool, true, false, cond}
+use mathlib.Core.Path.{_≡_}
+use mathlib.Core.Bool.{true}
 use mathlib.Core.List.{List, [], _∷_}
 use native.Mathlib.Omega.{arith}
-use borrow.Author.Tests.{ltb-false, le-leb, leb-true}
-use lib.Dec.{ltb, leb}
+use borrow.Author.Tests.{leb-true}
+use lib.Dec.{leb}
 use lib.ListN.{getD, set}
 use lib.IntN.{ℤ, pos, negsuc, natAbs}
 use lib.Signed.{mag}
 use mir.Syntax.{w16}
-use mir.Val.{SFits, toZ, ofZ}
+use mir.Val.{toZ, ofZ}
 use mir.Facts.{toZ-ofZ}
 use Rattle.integers.proofs.Diff.{Diff}
-use Rattle.phasor.specs.Window.{sampleOf, sampleSound, sampleAt, windowSound}
-use Rattle.phasor.proofs.Each.{every-at, every-true, and-left}
-
--- ---- the sample of a code
-
-by-mag : (c : ℕ) (b : Bool) → ltb c 512 ≡ b → c ≤ 1023 → mag (cond b (negsuc (512 - suc c)) (pos (c - 512))) < 2 ^ 15
-by-mag c true e h = omega arith
-by-mag c false e h = omega arith
-
-pub sample-fits : (c : ℕ) → c ≤ 1023 → SFits w16 (sampleOf c)
-sample-fits c h = record { sfits = by-mag c (ltb c 512) refl h }
-
-by-sound : (c : ℕ) (b : Bool) → ltb c 512 ≡ b → c ≤ 1023 → sampleSound (cond b (negsuc (512 - suc c)) (pos (c - 512))) ≡ true
-by-sound c true e h = rw (le-leb (512 - suc c) 511 (omega arith))
-by-sound c false e h = le-leb (c - 512) 511 (omega (arith, ltb-false c 512 e))
-
-pub sample-is-sound : (c : ℕ) → c ≤ 1023 → sampleSound (sampleOf c) ≡ true
-sample-is-sound c h = by-sound c (ltb c 512) refl h
+use Rattle.lists.proofs.Each.{every-at, every-true, and-left}
+use Rattle.frames.specs.Codes.{sampleSound}
+use Rattle.phasor.specs.Window.{sampleAt, windowSound}
 
 -- an element of a window is handed on as its bits, which are read back as the sample
 pub back : (z : ℤ) → mag z < 2 ^ 15 → toZ w16 (ofZ w16 z) ≡ z
 back z h = toZ-ofZ {w = w16} {z = z} (record { sfits = h })
-
-pub sample-back : (c : ℕ) → c ≤ 1023 → toZ w16 (ofZ w16 (sampleOf c)) ≡ sampleOf c
-sample-back c h = toZ-ofZ {w = w16} {z = sampleOf c} (sample-fits c h)
-
--- ---- a sound window
 
 pub sample-at : (w : List ℤ) → windowSound w ≡ true → (k : ℕ) → k < 8 → sampleSound (sampleAt w k) ≡ true
 unfolding windowSound

@@ -9,7 +9,7 @@ use lib.IntN.{ℤ, pos, negsuc, natAbs, _+ℤ_, _-ℤ_, _*ℤ_}
 use lib.Signed.{shrZ, nonNeg, _≤ℤ_}
 use Rattle.phasor.specs.Window.{windowSound}
 use Rattle.phasor.specs.Fourier.{re, im}
-use Rattle.phasor.specs.Cordic.{lastX, startOf, scaledOf, amplitudeOf}
+use Rattle.phasor.specs.Cordic.{lastX, startOf, scaledOf, amplitudeOf, mostAmplitude}
 use Rattle.phasor.specs.Exact.{P, Q, A, B, C, D, AtLeast, AtMost, Below, Within}
 use Rattle.phasor.proofs.Trace as trace
 use Rattle.phasor.proofs.Accuracy as accuracy
@@ -43,7 +43,7 @@ im-is = accuracy.im-is
 -- ---- accuracy
 
 -- the accuracy theorem: the amplitude is never above 10,700, and is within 2 of the exact amplitude
-pub accurate : (w : List ℤ) → windowSound w ≡ true → (amplitudeOf w ≤ 10700) × Within w (amplitudeOf w)
+pub accurate : (w : List ℤ) → windowSound w ≡ true → (amplitudeOf w ≤ mostAmplitude) × Within w (amplitudeOf w)
 accurate w sound = (accuracy.largest w sound, accuracy.near-exact w sound)
 
 -- ---- order

@@ -3,7 +3,7 @@
 use mathlib.Core.Path.{_≡_, ap}
 use mathlib.Core.Bool.{cond}
 use mathlib.Core.Logic.{_⊎_, inl, inr, ⊎-elim}
-use Prim.Native.Nat.{ℕ, zero, suc, _+_, _*_, _-_, _/_, _^_, _≤_, _<_, zero-le}
+use Prim.Native.Nat.{ℕ, zero, suc, _+_, _*_, _/_, _^_, _≤_, _<_, zero-le}
 use native.Mathlib.Nat.{div-add-mod, mod-lt}
 use native.Mathlib.Omega.{arith}
 use borrow.Author.Tests.{le-leb}
@@ -23,8 +23,16 @@ parted y k p = (omega (arith, div-add-mod y k), omega (arith, div-add-mod y k, m
 -- x grows by q, which is y / k rounded down or up, and the next y is d, by which y and x / k differ
 module _ (k x y : ℕ) (pos-k : 0 < k) where
   whole : (q d : ℕ) → k * q < y + k → y < k * q + k → (y ≡ x / k + d) ⊎ (x / k ≡ y + d) → Step k x y (x + q) d
-  whole q d a b g = record
-      { z = gap .0; gap = gap .1; x-below = omega arith; x-above = omega arith; y-below = close .0; y-above = close .1; grows = omega arith; small = small scaled }
+  whole q d a b g = record {
+    z = gap .0;
+    gap = gap .1;
+    x-below = omega arith;
+    x-above = omega arith;
+    y-below = close .0;
+    y-above = close .1;
+    grows = omega arith;
+    small = small scaled;
+  }
     where
       x-parts : (k * (x / k) ≤ x) × (x < k * (x / k) + k)
       x-parts = parted x k pos-k
@@ -57,13 +65,15 @@ stepped : (k : ℕ) (x y : ℤ) → 0 < k → T (nonNeg x) → Next k (natAbs x)
 stepped k (negsuc x) y p t = absurd t
 stepped k (pos x) (pos y) p t =
     let d = parted y k p in
-    rw (le-leb 0 y zero-le) (record { right = tt; sizes = whole k x y p (y / k) _ (omega arith) (omega arith) (apart _ (size (sub (of-pos y) (of-pos (x / k))))) })
+    let gap = size (sub (of-pos y) (of-pos (x / k))) in
+    rw (le-leb 0 y zero-le) (record { right = tt; sizes = whole k x y p (y / k) _ (omega arith) (omega arith) (apart _ gap) })
   where
     apart : (d : ℕ) → (y + 0 ≡ 0 + x / k + d) ⊎ (0 + x / k ≡ y + 0 + d) → (y ≡ x / k + d) ⊎ (x / k ≡ y + d)
     apart d h = ⊎-elim (λ e. inl (omega arith)) (λ e. inr (omega arith)) h
 stepped k (pos x) (negsuc y) p t =
     let d = parted y k p in
-    record { right = tt; sizes = whole k x (suc y) p (suc (y / k)) _ (omega arith) (omega arith) (apart _ (size (add (of (negsuc y)) (of-pos (x / k))))) }
+    let gap = size (add (of (negsuc y)) (of-pos (x / k))) in
+    record { right = tt; sizes = whole k x (suc y) p (suc (y / k)) _ (omega arith) (omega arith) (apart _ gap) }
   where
     apart : (d : ℕ) → (0 + x / k ≡ suc y + 0 + d) ⊎ (suc y + 0 ≡ 0 + x / k + d) → (suc y ≡ x / k + d) ⊎ (x / k ≡ suc y + d)
     apart d h = ⊎-elim (λ e. inr (omega arith)) (λ e. inl (omega arith)) h

@@ -1,5 +1,6 @@
 -- Document 01, "From codes to amplitude": CORDIC's sixteen steps from |Re| and |Im|, and the amplitude m.
--- A point is CORDIC's pair of integers x, y; `shrZ z (2 ^ i)` is z shifted right by i, rounded towards minus infinity. Rests on Fourier.
+-- A point is CORDIC's pair of integers x, y; `shrZ z (2 ^ i)` is z shifted right by i, rounded towards minus infinity.
+-- Rests on Fourier.
 use Prim.Native.Nat.{ℕ, zero, suc, _^_}
 use mathlib.Core.Bool.{cond}
 use mathlib.Core.List.{List}
@@ -36,10 +37,15 @@ startOf w = startAt (re w) (im w)
 unfoldable pub lastX : List ℤ → ℤ
 lastX w = endOf (startOf w)
 
--- "x times 39797, divided by 2^28, rounded down"; x is never negative (a law: proofs/Theorems), so the natural number is the quotient itself
+-- "x times 39797, divided by 2^28, rounded down"; x is never negative (a law: proofs/Theorems), so the natural number
+-- is the quotient itself
 unfoldable pub scaledOf : ℤ → ℕ
 scaledOf x = natAbs (shrZ (x *ℤ pos 39797) (2 ^ 28))
 
 -- "The amplitude m", in sixteenths of a code, peak
 unfoldable pub amplitudeOf : List ℤ → ℕ
 amplitudeOf w = scaledOf (lastX w)
+
+-- "It is never above 10,700": a law (proofs/Theorems)
+abbrev pub mostAmplitude : ℕ
+mostAmplitude = 10700

@@ -1,5 +1,5 @@
--- Document 01, "The exact amplitude": Z, with Z² = P + Q√2, is known by its order against whole numbers alone, and so is all that is promised of it.
--- Rests on Window.
+-- Document 01, "The exact amplitude": Z, with Z² = P + Q√2, is known by its order against whole numbers alone, and so
+-- is all that is promised of it. Rests on Window.
 use Prim.Native.Nat.{ℕ, _*_}
 use mathlib.Core.List.{List}
 use lib.IntN.{ℤ, pos, negsuc, negℤ, _+ℤ_, _-ℤ_, _*ℤ_}

@@ -1,5 +1,5 @@
--- Document 01, "From codes to amplitude": the weights of the eight slots, and the sums Re and Im of sample times weight.
--- Rests on Window.
+-- Document 01, "From codes to amplitude": the weights of the eight slots, and the sums Re and Im of sample times
+-- weight. Rests on Window.
 use Prim.Native.Nat.{ℕ, zero, suc}
 use mathlib.Core.List.{List, [], _∷_}
 use lib.ListN.{getD}
@@ -8,7 +8,8 @@ use Rattle.phasor.specs.Window.{sampleAt}
 
 -- "cosine: 16384, 11585, 0, −11585, −16384, −11585, 0, 11585"
 unfoldable pub cosines : List ℤ
-cosines = pos 16384 ∷ pos 11585 ∷ pos 0 ∷ negℤ (pos 11585) ∷ negℤ (pos 16384) ∷ negℤ (pos 11585) ∷ pos 0 ∷ pos 11585 ∷ []
+cosines =
+    pos 16384 ∷ pos 11585 ∷ pos 0 ∷ negℤ (pos 11585) ∷ negℤ (pos 16384) ∷ negℤ (pos 11585) ∷ pos 0 ∷ pos 11585 ∷ []
 
 -- "sine: 0, 11585, 16384, 11585, 0, −11585, −16384, −11585"
 unfoldable pub sines : List ℤ

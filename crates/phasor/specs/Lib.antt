@@ -1,6 +1,6 @@
-pub mod Each
 pub mod Window
 pub mod Fourier
 pub mod Cordic
 pub mod Exact
 pub mod Lanes
+pub mod Internal

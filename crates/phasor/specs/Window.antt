@@ -1,24 +1,16 @@
--- Document 01, "From codes to amplitude": codes, samples, and a channel's window of eight samples.
+-- Document 01, "From codes to amplitude": a channel's window of eight samples. Rests on what a sample is (frames).
 -- A window is a list of integers, read by slot; a slot that the list lacks reads 0.
 use Prim.Native.Nat.{ℕ}
 use mathlib.Core.List.{List}
-use mathlib.Core.Bool.{Bool, _&&_}
-use lib.IntN.{ℤ, pos, negℤ, _-ℤ_}
-use lib.Signed.{leZ}
+use mathlib.Core.Bool.{Bool}
+use lib.IntN.{ℤ, pos}
 use lib.ListN.{getD}
-use Rattle.phasor.specs.Each.{every}
-
--- "its sample is s = code − 512"
-abbrev pub sampleOf : ℕ → ℤ
-sampleOf code = pos code -ℤ pos 512
+use Rattle.lists.specs.Each.{every}
+use Rattle.frames.specs.Codes.{sampleSound}
 
 -- the sample in slot k
 abbrev pub sampleAt : List ℤ → ℕ → ℤ
 sampleAt w k = getD w k (pos 0)
-
--- "samples −512 to 511": those of the codes 0 to 1023
-abbrev pub sampleSound : ℤ → Bool
-sampleSound s = leZ (negℤ (pos 512)) s && leZ s (pos 511)
 
 -- each of the eight samples is sound
 unfoldable pub windowSound : List ℤ → Bool

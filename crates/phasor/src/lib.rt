@@ -1,16 +1,16 @@
-// The amplitude of one cycle of samples: a full-cycle Fourier sum, and CORDIC for its magnitude. The six channels of a relay go through CORDIC
-// side by side, so that the compiler can use the lanes of a vector register; two lanes are spare.
-// Every public function is internal to the project: `relay` calls it, and meets its `requires`. No caller outside sees one.
+// The amplitude of one cycle of samples: a full-cycle Fourier sum, and CORDIC for its magnitude. The six channels of a
+// relay go through CORDIC side by side, so that the compiler can use the lanes of a vector register; two lanes are
+// spare. Every public function is internal to the project: `relay` calls it, and meets its `requires`.
 ghost use mathlib.Core.Path.{_≡_};
 ghost use mathlib.Core.Bool.{true};
 ghost use Prim.Native.Nat.{_≤_, _<_, _^_};
 ghost use lib.Dec.{T};
 ghost use lib.IntN.{pos, natAbs};
 ghost use lib.Signed.{nonNeg};
-ghost use Rattle.phasor.specs.Each.{table};
-ghost use Rattle.phasor.specs.Window.{sampleOf, sampleSound, windowSound};
-ghost use Rattle.phasor.specs.Cordic.{stepAt, steps, startOf, scaledOf, amplitudeOf};
-ghost use Rattle.phasor.specs.Lanes.{channelWindow, WindowsSound, NeverAbove, Short, AllShort, StartsOf, EndsOf};
+ghost use Rattle.phasor.specs.Window.{windowSound};
+ghost use Rattle.phasor.specs.Cordic.{stepAt, steps, startAt, scaledOf};
+ghost use Rattle.phasor.specs.Lanes.{WindowsSound, amplitudesOf, NeverAbove};
+ghost use Rattle.phasor.specs.Internal.{sumsOf, StepsFit, AllStepsFit, StartsOf, EndsOf};
 
 // A channel's last eight samples, by slot.
 pub struct Window {
@@ -34,32 +34,20 @@ const COSINES: [i32; 8] = [16384, 11585, 0, -11585, -16384, -11585, 0, 11585];
 
 const SINES: [i32; 8] = [0, 11585, 16384, 11585, 0, -11585, -16384, -11585];
 
-// The sample of a code.
-pub fn sample(code: u16) -> i16
-    requires { ⌜ code ≤ 1023 ⌝ }
-    ensures { λ r. ⌜ r ≡ sampleOf code ⌝ }
-{
-    code as i16 - 512
-}
-
-fn sample_sound(s: i16) -> bool
-    ensures { λ r. ⌜ r ≡ sampleSound s ⌝ }
-{
-    (-512 <= s) & (s <= 511)
-}
-
+// Each of the eight samples is that of some code.
 pub fn window_sound(w: [i16; 8]) -> bool
     ensures { λ r. ⌜ r ≡ windowSound w ⌝ }
 {
     let mut ok = true;
     let mut k: usize = 0;
     while k < 8 {
-        ok = ok & sample_sound(w[k]);
+        ok = ok & frames::codes::sample_sound(w[k]);
         k += 1;
     }
     ok
 }
 
+// |z|.
 fn absolute(z: i32) -> i32
     requires { ⌜ natAbs z < 2 ^ 31 ⌝ }
     ensures { λ r. ⌜ r ≡ pos (natAbs z) ⌝ }
@@ -67,10 +55,10 @@ fn absolute(z: i32) -> i32
     if z >= 0 { z } else { -z }
 }
 
-// Where CORDIC starts: the sizes of Re and Im, the sums of sample times weight.
-fn start(window: [i16; 8]) -> Point
+// Re and Im, the sums of sample times weight.
+fn sums(window: [i16; 8]) -> Point
     requires { ⌜ windowSound window ≡ true ⌝ }
-    ensures { λ r. ⌜ r ≡ startOf window ⌝ }
+    ensures { λ r. ⌜ r ≡ sumsOf window ⌝ }
 {
     let mut re: i32 = 0;
     let mut im: i32 = 0;
@@ -79,12 +67,21 @@ fn start(window: [i16; 8]) -> Point
         re += s * COSINES[slot];
         im += s * SINES[slot];
     }
+    Point { x: re, y: im }
+}
+
+// Where CORDIC starts: the sizes of the sums.
+fn start(sums: Point) -> Point
+    requires { ⌜ (natAbs (sums .x) < 2 ^ 31) × (natAbs (sums .y) < 2 ^ 31) ⌝ }
+    ensures { λ r. ⌜ r ≡ startAt (sums .x) (sums .y) ⌝ }
+{
     Point {
-        x: absolute(re),
-        y: absolute(im),
+        x: absolute(sums.x),
+        y: absolute(sums.y),
     }
 }
 
+// Step i of CORDIC: both new values use the old ones, and every shift rounds towards minus infinity.
 fn step(p: Point, i: u64) -> Point
     requires { ⌜ (i < 16) × (natAbs (p .x) < 2 ^ 29) × (natAbs (p .y) < 2 ^ 29) ⌝ }
     ensures { λ r. ⌜ r ≡ stepAt i p ⌝ }
@@ -106,8 +103,9 @@ fn step(p: Point, i: u64) -> Point
     }
 }
 
+// The sixteen steps.
 fn cordic(p: Point) -> Point
-    requires { ⌜ Short p ⌝ }
+    requires { ⌜ StepsFit p ⌝ }
     ensures { λ r. ⌜ r ≡ steps 16 p ⌝ }
 {
     let mut q = p;
@@ -125,7 +123,7 @@ fn scaled(x: i32) -> u16
     ((x as i64 * 39797) >> 28) as u16
 }
 
-// The six starts, and two spare lanes of 0.
+// The six pairs of sums, and two spare lanes of 0.
 fn starts(windows: [Window; 6]) -> Points
     requires { ⌜ WindowsSound windows ⌝ }
     ensures { λ r. ⌜ StartsOf windows 6 r ⌝ }
@@ -138,7 +136,7 @@ fn starts(windows: [Window; 6]) -> Points
     while c < 6 {
         let w = windows[c];
         let samples = w.samples;
-        let s = start(samples);
+        let s = sums(samples);
         let x = s.x;
         let y = s.y;
         p.x[c] = x;
@@ -150,16 +148,16 @@ fn starts(windows: [Window; 6]) -> Points
 
 // Where x ends, in each lane.
 fn ends(p: Points) -> [i32; 8]
-    requires { ⌜ AllShort p ⌝ }
+    requires { ⌜ AllStepsFit p ⌝ }
     ensures { λ r. ⌜ EndsOf p 8 r ⌝ }
 {
     let mut e = [0i32; 8];
     let mut c: usize = 0;
     while c < 8 {
-        let q = cordic(Point {
+        let q = cordic(start(Point {
             x: p.x[c],
             y: p.y[c],
-        });
+        }));
         let x = q.x;
         e[c] = x;
         c += 1;
@@ -170,7 +168,7 @@ fn ends(p: Points) -> [i32; 8]
 // The amplitudes of six windows of samples -512 to 511.
 pub fn amplitudes(windows: [Window; 6]) -> [u16; 6]
     requires { ⌜ WindowsSound windows ⌝ }
-    ensures value { λ r. ⌜ r ≡ table 6 (λ c. amplitudeOf (channelWindow windows c)) ⌝ }
+    ensures value { λ r. ⌜ r ≡ amplitudesOf windows ⌝ }
     ensures range { λ r. ⌜ NeverAbove r ⌝ }
 {
     let e = ends(starts(windows));

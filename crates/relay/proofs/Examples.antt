@@ -1,28 +1,23 @@
 -- Calls of the definitions, computed: the bench figures 75, 87 and 86, the worked example of the bench program, and one call for each rule and
 -- refusal. They show each rule and refusal at one place; they do not make a wrong definition impossible. Rests on the definitions alone.
-use Prim.Native.Nat.{ℕ, zero, suc, _+_, _-_}
+use Prim.Native.Nat.{ℕ, zero, suc, _+_, _-_, min}
 use mathlib.Core.Path.{_≡_, refl}
 use mathlib.Core.Bool.{Bool, true, false}
 use mathlib.Core.List.{List, [], _∷_, _++_, map}
 use lib.IntN.{pos}
+use lib.Dec.{leb, eqb}
 use lib.ListN.{replicate}
 use Rattle.relay.specs.declared.Channel.{Channel}
-use Rattle.relay.specs.declared.Levels.{Levels}
+use Rattle.relay.specs.declared.ChannelLevels.{ChannelLevels}
 use Rattle.relay.specs.declared.Settings.{Settings}
 use Rattle.relay.specs.declared.Relay.{Relay}
 use Rattle.relay.specs.declared.FrameAnswer.{FrameAnswer}
 use Rattle.relay.specs.declared.ResetAnswer.{ResetAnswer}
-use Rattle.phasor.specs.Each.{every, table}
-use Rattle.phasor.specs.Window.{windowSound}
-use Rattle.phasor.specs.Fourier.{cosines, sines, sumOver, re, im}
-use Rattle.phasor.specs.Cordic.{stepAt, steps, startOf, lastX, scaledOf, amplitudeOf}
-use Rattle.relay.specs.Bits.{bitsBelow}
-use Rattle.relay.specs.Settings.{settingsOf, dropsSound, pickupsSound, levelsOf}
-use Rattle.relay.specs.Channel.{freshChannel, nextRun, channelAfter}
-use Rattle.relay.specs.Sound.{channelSound, channelsSound, soundOf}
-use Rattle.relay.specs.Relay.{channelAt, freshRelay, zeroRelay, freshRefusal, freshOf, nextChannel, amplitudeIn, outputIn, acceptedFrame}
-use Rattle.relay.specs.Relay.{refusedFrame, codesSound, inputRefusal, frameRefusal, frameOf}
-use Rattle.relay.specs.Relay.{resetChannel, acceptedReset, refusedReset, maskRefusal, resetRefusal, resetOf}
+use Rattle.lists.specs.Each.{table}
+use Rattle.frames.specs.Bits.{bitsBelow}
+use Rattle.relay.specs.Settings.{levelsOf}
+use Rattle.relay.specs.Relay.{channelAt, freshOf, frameOf, resetOf}
+use Rattle.relay.proofs.Computed.{computed}
 
 -- ---- calls from a fresh relay
 
@@ -46,10 +41,14 @@ outputs r (codes ∷ more) =
 
 -- equal drop levels and equal pickup levels
 abbrev pub equalLevels : ℕ → ℕ → Settings
-equalLevels drop pickup = settingsOf (replicate 6 drop) (replicate 3 pickup)
+equalLevels drop pickup = record { drop = replicate 6 drop; pickup = replicate 3 pickup }
+
+-- nine levels, no two of them equal
+abbrev nine : Settings
+nine = record { drop = 1 ∷ 2 ∷ 3 ∷ 4 ∷ 5 ∷ 6 ∷ []; pickup = 7 ∷ 8 ∷ 9 ∷ [] }
 
 -- the levels of one channel
-abbrev own : ℕ → ℕ → Bool → Levels
+abbrev own : ℕ → ℕ → Bool → ChannelLevels
 own drop pickup current = record { drop = drop; pickup = pickup; current = current }
 
 -- a channel with a window of zeros
@@ -66,13 +65,13 @@ relay age slot channels = record { channels = channels; age = age; slot = slot; 
 
 -- a frame of codes 512 that is accepted: the amplitudes are 0
 abbrev acceptedAnswer : Relay → ℕ → FrameAnswer
-acceptedAnswer r output = record { relay = r; number = 0; amplitudes = replicate 6 0; output = output }
+acceptedAnswer r output = record { relay = r; refusal = 0; amplitudes = replicate 6 0; output = output }
 
 abbrev refusedAnswer : Relay → ℕ → FrameAnswer
-refusedAnswer r number = record { relay = r; number = number; amplitudes = replicate 6 0; output = 0 }
+refusedAnswer r refusal = record { relay = r; refusal = refusal; amplitudes = replicate 6 0; output = 0 }
 
 abbrev resetAnswer : Relay → ℕ → ResetAnswer
-resetAnswer r number = record { relay = r; number = number }
+resetAnswer r refusal = record { relay = r; refusal = refusal }
 
 -- a settled relay with a loss run on each channel and an over run on each current, all latches on or all off
 abbrev running : ℕ → ℕ → ℕ → ℕ → Bool → Relay
@@ -99,7 +98,7 @@ struckAll drop pickup lossRun overRun lossLatch overLatch output =
         slot = 1;
         settings = equalLevels drop pickup;
       };
-      number = 0;
+      refusal = 0;
       amplitudes = replicate 6 400;
       output = output;
     }
@@ -128,7 +127,7 @@ handed age slot drop pickup channels = record { channels = channels; age = age; 
 
 -- such a frame's answer: each amplitude is 400
 abbrev answer400 : Relay → ℕ → FrameAnswer
-answer400 r output = record { relay = r; number = 0; amplitudes = replicate 6 400; output = output }
+answer400 r output = record { relay = r; refusal = 0; amplitudes = replicate 6 400; output = output }
 
 -- six channels that are all in other states, and what a frame that is not counted makes of them
 abbrev mixed : List Channel
@@ -159,6 +158,15 @@ full =
     ∷ marked 0 4 false false
     ∷ marked 9 4 true true ∷ []
 
+-- six channels alike, but for what a voltage has not
+abbrev alike : ℕ → ℕ → Bool → Bool → List Channel
+alike lossRun overRun lossLatch overLatch =
+    replicate 3 (channel lossRun 0 lossLatch false) ++ replicate 3 (channel lossRun overRun lossLatch overLatch)
+
+-- one thing for each loss run and each over run
+abbrev eachRun : {A : Type 0} → (ℕ → ℕ → A) → List (List A)
+eachRun f = table 17 (λ lossRun. table 5 (f lossRun))
+
 -- a relay of which no channel and no level is in range
 abbrev brokenChannel : Channel
 brokenChannel = record { samples = replicate 8 (pos 600); «loss_run» = 17; «over_run» = 5; «loss_latch» = true; «over_latch» = true }
@@ -173,31 +181,35 @@ latched r = bitsBelow 6 (λ c. channelAt r c .«loss_latch»)
 pub record Examples : Type 0 where
   -- "That wave steady on channel 3 from frame 0, pickup 1603: over latch in frame 75. Pickup 1604: never."
   -- "Code 512 throughout, drop 1: loss latches in frame 87; in frame 86 none." Channel 4 has the wave and pickup 1604; 0, 1, 2 and 5 have code 512.
-  figures : outputs (freshOf (replicate 6 1) (1603 ∷ 1604 ∷ 1604 ∷ []) .relay) (waves 11) ≡ replicate 75 0 ++ replicate 12 8 ++ (47 ∷ [])
+  figures : outputs (freshOf (record { drop = replicate 6 1; pickup = 1603 ∷ 1604 ∷ 1604 ∷ [] }) .relay) (waves 11)
+      ≡ replicate 75 0 ++ replicate 12 8 ++ (47 ∷ [])
   -- a fresh relay, at the ends of "1 to 10,700"; refusal 1 with the all-zero relay
-  fresh : freshOf (replicate 6 1) (replicate 3 10700) ≡ record { relay = record { channels = still; age = 0; slot = 0; settings = equalLevels 1 10700 }; number = 0 }
-  highest-drops : freshOf (replicate 6 10700) (replicate 3 1)
-      ≡ record { relay = record { channels = still; age = 0; slot = 0; settings = equalLevels 10700 1 }; number = 0 }
+  fresh : freshOf (equalLevels 1 10700)
+      ≡ record { relay = record { channels = still; age = 0; slot = 0; settings = equalLevels 1 10700 }; refusal = 0 }
+  highest-drops : freshOf (equalLevels 10700 1)
+      ≡ record { relay = record { channels = still; age = 0; slot = 0; settings = equalLevels 10700 1 }; refusal = 0 }
   -- each level is kept in its place
-  nine-levels : freshOf (1 ∷ 2 ∷ 3 ∷ 4 ∷ 5 ∷ 6 ∷ []) (7 ∷ 8 ∷ 9 ∷ []) ≡ record {
+  nine-levels : freshOf nine ≡ record {
     relay = record {
       channels = still;
       age = 0;
       slot = 0;
       settings = record { drop = 1 ∷ 2 ∷ 3 ∷ 4 ∷ 5 ∷ 6 ∷ []; pickup = 7 ∷ 8 ∷ 9 ∷ [] };
     };
-    number = 0;
+    refusal = 0;
   }
   -- whichever level is out of range, and however
-  drop-low : freshOf (0 ∷ replicate 5 1) (replicate 3 1) ≡ record { relay = record { channels = still; age = 0; slot = 0; settings = equalLevels 0 0 }; number = 1 }
-  drop-high : freshOf (10701 ∷ replicate 5 1) (replicate 3 1) ≡ record { relay = handed 0 0 0 0 still; number = 1 }
-  pickup-low : freshOf (replicate 6 819) (3413 ∷ 3413 ∷ 0 ∷ []) ≡ record { relay = handed 0 0 0 0 still; number = 1 }
+  drop-low : freshOf (record { drop = 0 ∷ replicate 5 1; pickup = replicate 3 1 })
+      ≡ record { relay = record { channels = still; age = 0; slot = 0; settings = equalLevels 0 0 }; refusal = 1 }
+  drop-high : freshOf (record { drop = 10701 ∷ replicate 5 1; pickup = replicate 3 1 }) ≡ record { relay = handed 0 0 0 0 still; refusal = 1 }
+  pickup-low : freshOf (record { drop = replicate 6 819; pickup = 3413 ∷ 3413 ∷ 0 ∷ [] }) ≡ record { relay = handed 0 0 0 0 still; refusal = 1 }
   -- "a drop level for each channel and a pickup level for each current": each channel has its own
-  own-levels : table 6 (levelsOf (settingsOf (1 ∷ 2 ∷ 3 ∷ 4 ∷ 5 ∷ 6 ∷ []) (7 ∷ 8 ∷ 9 ∷ []))) ≡ own 1 0 false ∷ own 2 0 false ∷ own 3 0 false ∷ own 4 7 true ∷ own 5 8 true ∷ own 6 9 true ∷ []
+  own-levels : table 6 (levelsOf nine)
+      ≡ own 1 0 false ∷ own 2 0 false ∷ own 3 0 false ∷ own 4 7 true ∷ own 5 8 true ∷ own 6 9 true ∷ []
   -- the bench program's example, amplitudes 400 0 0 0 0 0: the sample goes to slot 0, the slot advances and age is 1
   first : frameOf (relay 0 0 still) (612 ∷ replicate 5 512) 127 ≡ record {
     relay = relay 1 1 (struck 0 0 false false ∷ replicate 5 (channel 0 0 false false));
-    number = 0;
+    refusal = 0;
     amplitudes = 400 ∷ replicate 5 0;
     output = 0;
   }
@@ -206,9 +218,11 @@ pub record Examples : Type 0 where
   slots : table 8 (λ slot. frameOf (relay 5 slot still) quiet 127 .relay .slot) ≡ 1 ∷ 2 ∷ 3 ∷ 4 ∷ 5 ∷ 6 ∷ 7 ∷ 0 ∷ []
   -- the frame that takes age from 71 to 72 is not counted and leaves all runs as they were, enabled or not; a full run that was handed in turns its
   -- latch on all the same (step 4 is in every accepted frame)
-  not-counted : frameOf (relay 71 7 (channel 16 0 false false ∷ replicate 5 (channel 3 0 false false))) quiet 65 ≡ acceptedAnswer (relay 72 0 (channel 16 0 true false ∷ replicate 5 (channel 3 0 false false))) 1
+  not-counted : frameOf (relay 71 7 (channel 16 0 false false ∷ replicate 5 (channel 3 0 false false))) quiet 65
+      ≡ acceptedAnswer (relay 72 0 (channel 16 0 true false ∷ replicate 5 (channel 3 0 false false))) 1
   -- a counted frame: a run grows by 1, turns its latch on at 16, and grows no more
-  grows : frameOf (relay 72 7 (channel 14 0 false false ∷ channel 15 0 false false ∷ replicate 4 (channel 16 0 true false))) quiet 127 ≡ acceptedAnswer (relay 72 0 (channel 15 0 false false ∷ channel 16 0 true false ∷ replicate 4 (channel 16 0 true false))) 62
+  grows : frameOf (relay 72 7 (channel 14 0 false false ∷ channel 15 0 false false ∷ replicate 4 (channel 16 0 true false))) quiet 127
+      ≡ acceptedAnswer (relay 72 0 (channel 15 0 false false ∷ channel 16 0 true false ∷ replicate 4 (channel 16 0 true false))) 62
   -- so does a full over run in a frame that is not counted
   not-counted-over : frameOf (relay 71 7 (replicate 3 (channel 0 0 false false) ++ replicate 3 (channel 0 4 false false))) quiet 127
       ≡ acceptedAnswer (relay 72 0 (replicate 3 (channel 0 0 false false) ++ replicate 3 (channel 0 4 false true))) 56
@@ -247,14 +261,37 @@ pub record Examples : Type 0 where
   -- "sound" asks no tie between fields: any slot with any age, runs and latches at any age, a latch on with run 0
   no-tie : frameOf (relay 5 3 (early (channel 16 4 false false))) quiet 127 ≡ acceptedAnswer (relay 6 4 (early (channel 16 4 true true))) 63
   no-tie-reset : resetOf (relay 5 3 (early (channel 16 4 false false))) 32 ≡ resetAnswer (relay 5 3 (early (channel 0 0 false false))) 0
+  -- each loss run beside each over run: kept in a frame that is not counted, latches off before it or on; and m = 0 in one that is
+  runs-kept : eachRun (λ loss over. frameOf (relay 5 3 (alike loss over false false)) quiet 127 .relay)
+      ≡ eachRun (λ loss over. relay 6 4 (alike loss over (eqb loss 16) (eqb over 4)))
+  runs-kept-latched : eachRun (λ loss over. frameOf (relay 5 3 (alike loss over true true)) quiet 127 .relay)
+      ≡ eachRun (λ loss over. relay 6 4 (alike loss over true true))
+  runs-counted : eachRun (λ loss over. frameOf (relay 72 3 (alike loss over false false)) quiet 127 .relay)
+      ≡ eachRun (λ loss over. relay 72 4 (alike (min 16 (loss + 1)) 0 (leb 15 loss) false))
+  runs-cleared : eachRun (λ loss over. resetOf (relay 5 3 (replicate 3 (marked loss 0 true false) ++ replicate 3 (marked loss over true true))) 63)
+      ≡ eachRun (λ loss over. resetAnswer (relay 5 3 (replicate 6 (marked 0 0 false false))) 0)
+  -- the same at each age below 72 and in each slot; a reset at each age and slot; a frame refused by 4 at each age
+  each-early : table 72 (λ age. frameOf (relay age 3 (early (channel 16 4 false false))) quiet 127)
+      ≡ table 72 (λ age. acceptedAnswer (relay (age + 1) 4 (early (channel 16 4 true true))) 63)
+  each-early-slot : table 7 (λ slot. frameOf (relay 5 slot (early (channel 16 4 false false))) quiet 127)
+      ≡ table 7 (λ slot. acceptedAnswer (relay 6 (slot + 1) (early (channel 16 4 true true))) 63)
+  each-age-reset : table 73 (λ age. table 8 (λ slot. resetOf (relay age slot (early (channel 16 4 false false))) 32))
+      ≡ table 73 (λ age. table 8 (λ slot. resetAnswer (relay age slot (early (channel 0 0 false false))) 0))
+  each-age-refused : table 73 (λ age. frameOf (relay age 3 (early (channel 16 4 false false))) quiet 128)
+      ≡ table 73 (λ age. refusedAnswer (relay age 3 (early (channel 16 4 false false))) 4)
   -- a channel that is not enabled: its runs become 0, its latch stays, its output bit is 0; bit 6 off disables all
-  disabled : frameOf tripped quiet 66 ≡ acceptedAnswer (relay 72 0 (channel 0 0 true false ∷ channel 16 0 true false ∷ replicate 4 (channel 0 0 true false))) 2
+  disabled : frameOf tripped quiet 66
+      ≡ acceptedAnswer (relay 72 0 (channel 0 0 true false ∷ channel 16 0 true false ∷ replicate 4 (channel 0 0 true false))) 2
   -- each enable byte: six latches are on, and the output shows those that are enabled
   each-enable : table 128 (λ enable. frameOf tripped quiet enable .output) ≡ replicate 64 0 ++ table 64 (λ n. n)
   device-off : frameOf tripped quiet 63 ≡ acceptedAnswer (relay 72 0 (replicate 6 (channel 0 0 true false))) 0
   -- a reset clears the channels that it names and nothing else, and age stays 72; masks 0 to 63 are accepted; bits 6 and 7 are refused
-  resets : resetOf tripped 5 ≡ resetAnswer (relay 72 7 (channel 0 0 false false ∷ channel 16 0 true false ∷ channel 0 0 false false ∷ replicate 3 (channel 16 0 true false))) 0
-  resets-over : resetOf (relay 72 7 (replicate 3 (channel 0 0 false false) ++ replicate 3 (channel 16 4 true true))) 16 ≡ resetAnswer (relay 72 7 (replicate 3 (channel 0 0 false false) ++ (channel 16 4 true true ∷ channel 0 0 false false ∷ channel 16 4 true true ∷ []))) 0
+  resets : resetOf tripped 5
+      ≡ resetAnswer
+      (relay 72 7 (channel 0 0 false false ∷ channel 16 0 true false ∷ channel 0 0 false false ∷ replicate 3 (channel 16 0 true false))) 0
+  resets-over : resetOf (relay 72 7 (replicate 3 (channel 0 0 false false) ++ replicate 3 (channel 16 4 true true))) 16
+      ≡ resetAnswer
+      (relay 72 7 (replicate 3 (channel 0 0 false false) ++ (channel 16 4 true true ∷ channel 0 0 false false ∷ channel 16 4 true true ∷ []))) 0
   -- windows, slot, age and settings stay, also of a channel that is named
   resets-mixed : resetOf (handed 72 3 400 401 full) 0x29 ≡ resetAnswer
       (handed 72 3 400 401
@@ -273,7 +310,7 @@ pub record Examples : Type 0 where
   bad-mask : resetOf tripped 64 ≡ resetAnswer tripped 5
   bad-mask-7 : resetOf tripped 129 ≡ resetAnswer tripped 5
   -- "Code 1023 is accepted, 1024 refused."
-  highest : frameOf tripped (1023 ∷ replicate 5 512) 127 .number ≡ 0
+  highest : frameOf tripped (1023 ∷ replicate 5 512) 127 .refusal ≡ 0
   bad-code : frameOf tripped (replicate 5 512 ++ (1024 ∷ [])) 255 ≡ refusedAnswer tripped 3
   bad-enable : frameOf tripped (replicate 6 612) 128 ≡ refusedAnswer tripped 4
   -- channel c is read as the c-th
@@ -283,10 +320,10 @@ pub record Examples : Type 0 where
   unsound-reset : resetOf (relay 72 8 still) 128 ≡ resetAnswer (relay 72 8 still) 2
   broken-frame : frameOf broken (replicate 6 612) 127 ≡ refusedAnswer broken 2
   broken-reset : resetOf broken 63 ≡ resetAnswer broken 2
-  zero-relay : frameOf (freshOf (replicate 6 0) (replicate 3 0) .relay) quiet 127 .number ≡ 2
+  zero-relay : frameOf (freshOf (equalLevels 0 0) .relay) quiet 127 .refusal ≡ 2
 
 pub examples : Examples
-unfolding outputs waves cosines sines sumOver re im stepAt steps startOf lastX scaledOf amplitudeOf every table windowSound bitsBelow dropsSound pickupsSound levelsOf freshChannel nextRun channelAfter channelSound channelsSound soundOf freshRelay zeroRelay freshRefusal freshOf nextChannel amplitudeIn outputIn acceptedFrame refusedFrame codesSound inputRefusal frameRefusal frameOf resetChannel acceptedReset refusedReset maskRefusal resetRefusal resetOf
+unfolding outputs waves computed
 examples = record {
   figures = refl;
   fresh = refl;
@@ -313,6 +350,14 @@ examples = record {
   mixed-all-off = refl;
   no-tie = refl;
   no-tie-reset = refl;
+  runs-kept = refl;
+  runs-kept-latched = refl;
+  runs-counted = refl;
+  runs-cleared = refl;
+  each-early = refl;
+  each-early-slot = refl;
+  each-age-reset = refl;
+  each-age-refused = refl;
   disabled = refl;
   each-enable = refl;
   device-off = refl;

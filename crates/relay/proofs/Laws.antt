@@ -1,66 +1,72 @@
 -- Laws of the relay's definitions that hold with no code: what an accepted or a refused call is, what it makes of channel c, and that a
 -- fresh relay is sound and every accepted call leaves it so. Rests on the definitions, and on what a sound relay says of its parts.
-use Prim.Native.Nat.{ℕ, _+_, _-_, _≤_, _<_}
+use Prim.Native.Nat.{ℕ, _+_, _≤_, _<_}
 use native.Mathlib.Omega.{arith}
 use mathlib.Core.Path.{_≡_, refl, _∙_}
 use mathlib.Core.Bool.{Bool, true, false, _&&_, _||_, not, cond, false≢true}
-use mathlib.Core.List.{List}
+use mathlib.Core.List.{List, [], _∷_}
 use lib.IntN.{ℤ}
 use lib.Dec.{leb, ltb, eqb}
 use lib.ListN.{getD, getD-replicate}
 use borrow.Author.Tests.{ltb-true, leb-true, le-leb, eqb-true, ne-eqb}
-use Rattle.phasor.specs.Each.{every}
+use Rattle.lists.specs.Each.{every}
 use Rattle.phasor.specs.Cordic.{amplitudeOf}
-use Rattle.phasor.specs.Window.{sampleOf, windowSound}
-use Rattle.phasor.proofs.Samples.{sample-is-sound, window-set}
-use Rattle.phasor.proofs.Each.{and-true, and-left, and-right, getD-table}
+use Rattle.phasor.specs.Window.{windowSound}
+use Rattle.phasor.proofs.Samples.{window-set}
+use Rattle.lists.proofs.Each.{and-true, and-left, and-right, getD-table}
+use Rattle.refusals.specs.Refusals.{_orElse_, firstFault, accepted, badSetting}
+use Rattle.frames.specs.Codes.{codeLimit, sampleOf, codesInRange}
+use Rattle.frames.proofs.Ranges.{codes-below}
+use Rattle.frames.proofs.Samples.{sample-is-sound}
 use Rattle.relay.specs.declared.Channel.{Channel}
-use Rattle.relay.specs.declared.Levels.{Levels}
+use Rattle.relay.specs.declared.ChannelLevels.{ChannelLevels}
 use Rattle.relay.specs.declared.Settings.{Settings}
 use Rattle.relay.specs.declared.Relay.{Relay}
 use Rattle.relay.specs.declared.FreshAnswer.{FreshAnswer}
-use Rattle.relay.specs.Bits.{bitOf, enabledIn}
-use Rattle.relay.specs.Settings.{isCurrent, settingsOf, settingsSound, levelsOf, lossFrames, overFrames, settled, loss}
+use Rattle.frames.specs.Bits.{bitOf, enabledIn}
+use Rattle.relay.specs.Settings.{isCurrent, settingsSound, levelsOf, lossFrames, overFrames, settled, loss}
 use Rattle.relay.specs.Channel.{noChannel, freshChannel, clearedOf, windowAfter, runAfter, nextRun, channelAfter}
-use Rattle.relay.proofs.Sound.{Sound, sound-says, says-sound, code-le}
+use Rattle.relay.proofs.Sound.{Sound, sound-says, says-sound}
 use Rattle.relay.specs.Sound.{overSound, channelSound, channelsSound, soundOf}
-use Rattle.relay.specs.Relay.{channelAt, freshRelay, zeroRelay, freshRefusal, freshOf, counted, ageAfter, slotAfter, nextChannel, acceptedFrame, refusedFrame}
-use Rattle.relay.specs.Relay.{codesSound, inputRefusal, frameRefusal, frameOf, resetChannel, acceptedReset, refusedReset, maskRefusal, resetRefusal, resetOf}
+use Rattle.relay.specs.Relay.{channelAt, freshRelay, zeroRelay, freshRefusal, freshOf, counted, ageAfter, slotAfter}
+use Rattle.relay.specs.Relay.{nextChannel, acceptedFrame, refusedFrame, inputRefusal, frameRefusal, frameOf}
+use Rattle.relay.specs.Relay.{resetChannel, acceptedReset, refusedReset, maskRefusal, resetRefusal, resetOf}
 
 -- ---- what a call's answer is
 
 -- settings that are accepted are in range, and the answer is the fresh relay
-pub fresh-accepted : (drop pickup : List ℕ) → freshOf drop pickup .number ≡ 0 → settingsSound (settingsOf drop pickup) ≡ true
+pub fresh-accepted : (s : Settings) → freshOf s .refusal ≡ accepted → settingsSound s ≡ true
 unfolding freshOf freshRefusal
-fresh-accepted drop pickup e = by (settingsSound (settingsOf drop pickup)) e
+fresh-accepted s e = by (settingsSound s) e
   where
     by : (b : Bool)
-        → cond {A = FreshAnswer} (eqb (cond (not b) 1 0) 0) (record { relay = freshRelay (settingsOf drop pickup); number = 0 })
-        (record { relay = zeroRelay; number = cond (not b) 1 0 }) .number ≡ 0
+        → cond {A = FreshAnswer} (eqb (firstFault ((b orElse badSetting) ∷ [])) accepted) (record { relay = freshRelay s; refusal = accepted })
+        (record { relay = zeroRelay; refusal = firstFault ((b orElse badSetting) ∷ []) }) .refusal ≡ accepted
         → b ≡ true
     by true e = refl
     by false e = absurd (omega arith)
 
-pub fresh-is : (drop pickup : List ℕ) → settingsSound (settingsOf drop pickup) ≡ true → freshOf drop pickup ≡ record { relay = freshRelay (settingsOf drop pickup); number = 0 }
+pub fresh-is : (s : Settings) → settingsSound s ≡ true → freshOf s ≡ record { relay = freshRelay s; refusal = accepted }
 unfolding freshOf freshRefusal
-fresh-is drop pickup e = rw e
+fresh-is s e = rw e
 
 -- on a sound relay codes, enable byte and mask alone decide
-pub frame-accepted : (r : Relay) (codes : List ℕ) (enable : ℕ) → soundOf r ≡ true → inputRefusal codes enable ≡ 0 → frameOf r codes enable ≡ acceptedFrame r codes enable
-unfolding frameOf frameRefusal
+pub frame-accepted : (r : Relay) (codes : List ℕ) (enable : ℕ) → soundOf r ≡ true → inputRefusal codes enable ≡ 0
+    → frameOf r codes enable ≡ acceptedFrame r codes enable
+unfolding frameOf frameRefusal inputRefusal
 frame-accepted r codes enable s e = rw (s, e)
 
 pub frame-refused : (r : Relay) (codes : List ℕ) (enable : ℕ) → soundOf r ≡ true → ¬ (inputRefusal codes enable ≡ 0)
     → frameOf r codes enable ≡ refusedFrame r (inputRefusal codes enable)
-unfolding frameOf frameRefusal
+unfolding frameOf frameRefusal inputRefusal
 frame-refused r codes enable s e = rw (s, ne-eqb (inputRefusal codes enable) 0 e)
 
 pub reset-accepted : (r : Relay) (mask : ℕ) → soundOf r ≡ true → maskRefusal mask ≡ 0 → resetOf r mask ≡ acceptedReset r mask
-unfolding resetOf resetRefusal
+unfolding resetOf resetRefusal maskRefusal
 reset-accepted r mask s e = rw (s, e)
 
 pub reset-refused : (r : Relay) (mask : ℕ) → soundOf r ≡ true → ¬ (maskRefusal mask ≡ 0) → resetOf r mask ≡ refusedReset r (maskRefusal mask)
-unfolding resetOf resetRefusal
+unfolding resetOf resetRefusal maskRefusal
 reset-refused r mask s e = rw (s, ne-eqb (maskRefusal mask) 0 e)
 
 -- ---- channel c
@@ -97,22 +103,27 @@ run-none run false enabled h = h
 
 -- the over run and latch after a frame: a current's run stays within its length, a voltage's stay 0 and off
 over-sound : (current m counted enabled latch : Bool) (run next : ℕ) → next ≡ runAfter counted (enabled && (current && m)) overFrames run
-    → cond current (leb run overFrames) (eqb run 0 && not latch) ≡ true → cond current (leb next overFrames) (eqb next 0 && not (latch || eqb next overFrames)) ≡ true
-over-sound true m counted enabled latch run next e s = le-leb next overFrames (rw e (run-le overFrames run counted (enabled && m) (leb-true run overFrames s)))
+    → cond current (leb run overFrames) (eqb run 0 && not latch) ≡ true
+    → cond current (leb next overFrames) (eqb next 0 && not (latch || eqb next overFrames)) ≡ true
+over-sound true m counted enabled latch run next e s =
+    le-leb next overFrames (rw e (run-le overFrames run counted (enabled && m) (leb-true run overFrames s)))
 over-sound false m counted enabled true run next e s = absurd (false≢true (and-right (eqb run 0) false s))
 over-sound false m counted enabled false run next e s = rw (e ∙ run-none run counted enabled (eqb-true run 0 (and-left (eqb run 0) true s)))
 
 -- a frame leaves a sound channel sound
-channel-sound : (levels : Levels) (slot : ℕ) (counted enabled : Bool) (code : ℕ) (ch : Channel) → code ≤ 1023
+channel-sound : (levels : ChannelLevels) (slot : ℕ) (counted enabled : Bool) (code : ℕ) (ch : Channel) → code < codeLimit
     → channelSound (levels .current) ch ≡ true → channelSound (levels .current) (channelAfter levels slot counted enabled code ch) ≡ true
 unfolding channelSound channelAfter nextRun
 channel-sound levels slot counted enabled code ch h s =
     let window : List ℤ = windowAfter slot code ch in
-    let two : windowSound (ch .samples) && leb (ch .«loss_run») lossFrames ≡ true = and-left _ (overSound (levels .current) ch) s in
+    let samples = windowSound (ch .samples) in
+    let two : samples && leb (ch .«loss_run») lossFrames ≡ true = and-left _ (overSound (levels .current) ch) s in
+    let loss-run : ch .«loss_run» ≤ lossFrames = leb-true _ lossFrames (and-right samples _ two) in
+    let over : overSound (levels .current) ch ≡ true = and-right (samples && leb (ch .«loss_run») lossFrames) _ s in
     and-true _ _
     (and-true _ _ (window-set (ch .samples) slot (sampleOf code) (and-left _ (leb (ch .«loss_run») lossFrames) two) (sample-is-sound code h))
-    (le-leb _ lossFrames (run-le lossFrames (ch .«loss_run») counted (enabled && loss levels .meets window) (leb-true _ lossFrames (and-right (windowSound (ch .samples)) _ two)))))
-    (over-sound (levels .current) (leb (levels .pickup) (amplitudeOf window)) counted enabled (ch .«over_latch») (ch .«over_run») _ refl (and-right (windowSound (ch .samples) && leb (ch .«loss_run») lossFrames) _ s))
+    (le-leb _ lossFrames (run-le lossFrames (ch .«loss_run») counted (enabled && loss levels .meets window) loss-run)))
+    (over-sound (levels .current) (leb (levels .pickup) (amplitudeOf window)) counted enabled (ch .«over_latch») (ch .«over_run») _ refl over)
 
 cleared-sound : (current : Bool) (ch : Channel) → channelSound current ch ≡ true → channelSound current (clearedOf ch) ≡ true
 unfolding channelSound
@@ -144,7 +155,8 @@ slot-le slot = by (ltb slot 7) refl
     by false q = omega arith
 
 -- an accepted frame leaves a sound relay sound, and so does an accepted reset
-pub frame-sound : (r : Relay) (codes : List ℕ) (enable : ℕ) → soundOf r ≡ true → codesSound codes ≡ true → soundOf (acceptedFrame r codes enable .relay) ≡ true
+pub frame-sound : (r : Relay) (codes : List ℕ) (enable : ℕ) → soundOf r ≡ true → codesInRange codes ≡ true
+    → soundOf (acceptedFrame r codes enable .relay) ≡ true
 unfolding acceptedFrame nextChannel levelsOf
 frame-sound r codes enable s h = says-sound (acceptedFrame r codes enable .relay) (next (sound-says r s))
   where
@@ -156,14 +168,15 @@ frame-sound r codes enable s h = says-sound (acceptedFrame r codes enable .relay
           slot = slot-le (r .slot);
           channel = λ c l. rw (frame-channel r codes enable c l)
               (channel-sound (levelsOf (r .settings) c) (r .slot) (counted r) (enabledIn enable c) (getD codes c 0) (channelAt r c)
-              (code-le codes h c l) (was .channel c l));
+              (codes-below codes h c l) (was .channel c l));
         }
 
 pub reset-sound : (r : Relay) (mask : ℕ) → soundOf r ≡ true → soundOf (acceptedReset r mask .relay) ≡ true
 unfolding acceptedReset resetChannel
 reset-sound r mask s = says-sound (acceptedReset r mask .relay) (next (sound-says r s))
   where
-    named : (c : ℕ) (b : Bool) → channelSound (isCurrent c) (channelAt r c) ≡ true → channelSound (isCurrent c) (cond b (clearedOf (channelAt r c)) (channelAt r c)) ≡ true
+    named : (c : ℕ) (b : Bool) → channelSound (isCurrent c) (channelAt r c) ≡ true
+        → channelSound (isCurrent c) (cond b (clearedOf (channelAt r c)) (channelAt r c)) ≡ true
     named c true t = cleared-sound (isCurrent c) (channelAt r c) t
     named c false t = t
 

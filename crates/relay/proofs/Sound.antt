@@ -1,21 +1,20 @@
--- What a sound relay, sound codes and an accepted frame say of their parts.
+-- What a sound relay and an accepted frame say of their parts.
 -- Rests on the definitions of soundness and of the refusals.
-use Prim.Native.Nat.{ℕ, _<_, _≤_}
+use Prim.Native.Nat.{ℕ, suc, _<_, _≤_}
 use mathlib.Core.Path.{_≡_, refl}
-use mathlib.Core.Bool.{Bool, true, false, _&&_, not, cond}
+use mathlib.Core.Bool.{Bool, true, false, _&&_, cond}
 use mathlib.Core.List.{List}
 use borrow.Author.Tests.{leb-true, le-leb}
 use native.Mathlib.Omega.{arith}
 use lib.Dec.{leb}
-use lib.ListN.{getD}
 use Rattle.phasor.specs.Window.{windowSound}
-use Rattle.phasor.proofs.Each.{and-true, and-left, and-right, every-at, every-true}
+use Rattle.lists.proofs.Each.{and-true, and-left, and-right, every-at, every-true}
+use Rattle.frames.specs.Codes.{codesInRange}
 use Rattle.relay.specs.declared.Channel.{Channel}
 use Rattle.relay.specs.declared.Relay.{Relay}
-use Rattle.relay.specs.Bits.{bitOf}
-use Rattle.relay.specs.Settings.{isCurrent, settingsSound, inRangeAt, settled}
+use Rattle.relay.specs.Settings.{isCurrent, settingsSound, settled}
 use Rattle.relay.specs.Sound.{channelSound, channelsSound, soundOf}
-use Rattle.relay.specs.Relay.{channelAt, codesSound, inputRefusal, frameRefusal}
+use Rattle.relay.specs.Relay.{channelAt, inputRefusal, frameRefusal}
 
 -- what the test of a relay says
 pub record Sound (r : Relay) : Type 0 where
@@ -39,29 +38,25 @@ sound-says r s =
 pub says-sound : (r : Relay) → Sound r → soundOf r ≡ true
 unfolding soundOf channelsSound
 says-sound r s =
-    and-true _ _ (and-true _ _ (and-true _ _ (s .settings) (le-leb (r .age) settled (s .age))) (le-leb (r .slot) 7 (s .slot))) (every-true 6 _ (s .channel))
-
--- an accepted frame has six codes in range
-pub input-codes : (codes : List ℕ) (enable : ℕ) → inputRefusal codes enable ≡ 0 → codesSound codes ≡ true
-unfolding inputRefusal
-input-codes codes enable e = by (codesSound codes) e
-  where
-    by : (b : Bool) → cond {A = ℕ} (not b) 3 (cond (bitOf enable 7) 4 0) ≡ 0 → b ≡ true
-    by true e = refl
-    by false e = absurd (omega arith)
+    let two = and-true _ _ (s .settings) (le-leb (r .age) settled (s .age)) in
+    and-true _ _ (and-true _ _ two (le-leb (r .slot) 7 (s .slot))) (every-true 6 _ (s .channel))
 
 -- what an accepted frame has passed
-parts : (s : Bool) (n : ℕ) → cond (not s) 2 n ≡ 0 → (s ≡ true) × (n ≡ 0)
-parts true n e = (refl, e)
-parts false n e = absurd (omega arith)
+passed : (holds : Bool) (k : ℕ) {n : ℕ} → cond holds n (suc k) ≡ 0 → (holds ≡ true) × (n ≡ 0)
+passed true k e = (refl, e)
+passed false k e = absurd (omega arith)
+
+pub input-codes : (codes : List ℕ) (enable : ℕ) → inputRefusal codes enable ≡ 0 → codesInRange codes ≡ true
+unfolding inputRefusal
+input-codes codes enable e = passed (codesInRange codes) 2 e .0
 
 pub relay-passed : (r : Relay) (codes : List ℕ) (enable : ℕ) → frameRefusal r codes enable ≡ 0 → soundOf r ≡ true
 unfolding frameRefusal
-relay-passed r codes enable e = parts (soundOf r) (inputRefusal codes enable) e .0
+relay-passed r codes enable e = passed (soundOf r) 1 e .0
 
-pub codes-passed : (r : Relay) (codes : List ℕ) (enable : ℕ) → frameRefusal r codes enable ≡ 0 → codesSound codes ≡ true
-unfolding frameRefusal
-codes-passed r codes enable e = input-codes codes enable (parts (soundOf r) (inputRefusal codes enable) e .1)
+pub codes-passed : (r : Relay) (codes : List ℕ) (enable : ℕ) → frameRefusal r codes enable ≡ 0 → codesInRange codes ≡ true
+unfolding frameRefusal inputRefusal
+codes-passed r codes enable e = input-codes codes enable (passed (soundOf r) 1 e .1)
 
 pub slot-passed : (r : Relay) (codes : List ℕ) (enable : ℕ) → frameRefusal r codes enable ≡ 0 → r .slot < 8
 slot-passed r codes enable e = let l : r .slot ≤ 7 = sound-says r (relay-passed r codes enable e) .slot in omega arith
@@ -72,12 +67,3 @@ window-of current ch h = and-left (windowSound (ch .samples)) _ (and-left (windo
 
 pub window-is-sound : (r : Relay) → soundOf r ≡ true → (c : ℕ) → c < 6 → windowSound (channelAt r c .samples) ≡ true
 window-is-sound r h c l = window-of (isCurrent c) (channelAt r c) (sound-says r h .channel c l)
-
-pub code-le : (codes : List ℕ) → codesSound codes ≡ true → (c : ℕ) → c < 6 → getD codes c 0 ≤ 1023
-unfolding codesSound
-code-le codes h c l = leb-true (getD codes c 0) 1023 (and-right (leb 0 (getD codes c 0)) _ (every-at 6 (inRangeAt 0 1023 codes) h c l))
-
-pub codes-in-range : (codes : List ℕ) → ((c : ℕ) → c < 6 → getD codes c 0 ≤ 1023) → codesSound codes ≡ true
-unfolding codesSound
-codes-in-range codes h =
-    every-true 6 (inRangeAt 0 1023 codes) (λ c l. and-true _ _ (le-leb 0 (getD codes c 0) (omega arith)) (le-leb (getD codes c 0) 1023 (h c l)))

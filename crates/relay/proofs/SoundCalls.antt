@@ -10,18 +10,16 @@ use lib.ListN.{set, replicate}
 use Rattle.relay.specs.declared.Channel.{Channel}
 use Rattle.relay.specs.declared.Settings.{Settings}
 use Rattle.relay.specs.declared.Relay.{Relay}
-use Rattle.phasor.specs.Each.{every, table}
-use Rattle.phasor.specs.Window.{windowSound}
-use Rattle.relay.specs.Settings.{settingsOf, dropsSound, pickupsSound}
-use Rattle.relay.specs.Sound.{channelSound, channelsSound, soundOf}
-use Rattle.relay.specs.Relay.{freshRefusal, freshOf, acceptedFrame, refusedFrame, codesSound, inputRefusal, frameRefusal, frameOf}
-use Rattle.relay.specs.Relay.{acceptedReset, refusedReset, maskRefusal, resetRefusal, resetOf}
+use Rattle.lists.specs.Each.{table}
+use Rattle.relay.specs.Sound.{channelSound, soundOf}
+use Rattle.relay.specs.Relay.{freshOf, frameOf, resetOf}
+use Rattle.relay.proofs.Computed.{computed}
 use Rattle.relay.proofs.Examples.{quiet, equalLevels, channel, still}
 
--- ---- the numbers that two calls on a relay answer, a frame and a reset
+-- ---- the refusals that two calls on a relay answer, a frame and a reset
 
-abbrev numbers : Relay → List ℕ
-numbers r = frameOf r quiet 127 .number ∷ resetOf r 63 .number ∷ []
+abbrev refusals : Relay → List ℕ
+refusals r = frameOf r quiet 127 .refusal ∷ resetOf r 63 .refusal ∷ []
 
 abbrev bothAccepted : List ℕ
 bothAccepted = 0 ∷ 0 ∷ []
@@ -29,15 +27,18 @@ bothAccepted = 0 ∷ 0 ∷ []
 abbrev bothRefused : List ℕ
 bothRefused = 2 ∷ 2 ∷ []
 
+abbrev aging : ℕ → ℕ → Relay
+aging age slot = record { channels = still; age = age; slot = slot; settings = equalLevels 819 3413 }
+
 abbrev aged : ℕ → ℕ → List ℕ
-aged age slot = numbers (record { channels = still; age = age; slot = slot; settings = equalLevels 819 3413 })
+aged age slot = refusals (aging age slot)
 
 abbrev under : Settings → List ℕ
-under settings = numbers (record { channels = still; age = 72; slot = 0; settings = settings })
+under settings = refusals (record { channels = still; age = 72; slot = 0; settings = settings })
 
 -- channel c is as given, and the others have seen nothing
 abbrev holding : Channel → ℕ → List ℕ
-holding ch c = numbers (record { channels = set still c ch; age = 72; slot = 0; settings = equalLevels 819 3413 })
+holding ch c = refusals (record { channels = set still c ch; age = 72; slot = 0; settings = equalLevels 819 3413 })
 
 -- the same for each channel: in all six alike, or otherwise in voltages and currents
 abbrev inEach : Channel → List (List ℕ)
@@ -61,24 +62,21 @@ inEachSlot s = table 8 (λ k. inEach (sampled s k))
 
 -- what each byte gives as the enable byte of a frame and as the mask of a reset
 abbrev byEnable : Relay → List ℕ
-byEnable r = table 256 (λ enable. frameOf r quiet enable .number)
+byEnable r = table 256 (λ enable. frameOf r quiet enable .refusal)
 
 abbrev byMask : Relay → List ℕ
-byMask r = table 256 (λ mask. resetOf r mask .number)
-
-abbrev settled : ℕ → Relay
-settled slot = record { channels = still; age = 72; slot = slot; settings = equalLevels 819 3413 }
+byMask r = table 256 (λ mask. resetOf r mask .refusal)
 
 -- ---- one level apart from the others, in each place: what making a relay answers, and what the two calls on a relay that has it answer
 
 abbrev dropped : ℕ → ℕ → Settings
-dropped level c = settingsOf (set (replicate 6 819) c level) (replicate 3 3413)
+dropped level c = record { drop = set (replicate 6 819) c level; pickup = replicate 3 3413 }
 
 abbrev picked : ℕ → ℕ → Settings
-picked level k = settingsOf (replicate 6 819) (set (replicate 3 3413) k level)
+picked level k = record { drop = replicate 6 819; pickup = set (replicate 3 3413) k level }
 
 abbrev withLevel : Settings → List ℕ
-withLevel s = freshOf (s .drop) (s .pickup) .number ∷ under s
+withLevel s = freshOf s .refusal ∷ under s
 
 abbrev eachDrop : ℕ → List (List ℕ)
 eachDrop level = table 6 (λ c. withLevel (dropped level c))
@@ -88,16 +86,20 @@ eachPickup level = table 3 (λ k. withLevel (picked level k))
 
 pub record SoundCalls : Type 0 where
   -- "enable bit 7 is 1", "reset mask bit 6 or 7 is 1", of every byte; a relay that is not sound comes first
-  pub bytes : (byEnable (settled 7) ≡ replicate 128 0 ++ replicate 128 4) × (byMask (settled 7) ≡ replicate 64 0 ++ replicate 192 5)
-  pub bytes-unsound : (byEnable (settled 8) ≡ replicate 256 2) × (byMask (settled 8) ≡ replicate 256 2)
+  pub bytes : (byEnable (aging 72 7) ≡ replicate 128 0 ++ replicate 128 4) × (byMask (aging 72 7) ≡ replicate 64 0 ++ replicate 192 5)
+  pub bytes-unsound : (byEnable (aging 72 8) ≡ replicate 256 2) × (byMask (aging 72 8) ≡ replicate 256 2)
   -- "settings are in range", 1 to 10,700: each drop level and each pickup level
   pub lowest : (eachDrop 1 ≡ replicate 6 (0 ∷ bothAccepted)) × (eachPickup 1 ≡ replicate 3 (0 ∷ bothAccepted))
   pub highest : (eachDrop 10700 ≡ replicate 6 (0 ∷ bothAccepted)) × (eachPickup 10700 ≡ replicate 3 (0 ∷ bothAccepted))
   pub none : (eachDrop 0 ≡ replicate 6 (1 ∷ bothRefused)) × (eachPickup 0 ≡ replicate 3 (1 ∷ bothRefused))
   pub above : (eachDrop 10701 ≡ replicate 6 (1 ∷ bothRefused)) × (eachPickup 10701 ≡ replicate 3 (1 ∷ bothRefused))
-  pub far-above : (eachDrop 65535 ≡ replicate 6 (1 ∷ bothRefused)) × (eachPickup 65535 ≡ replicate 3 (1 ∷ bothRefused))
+  pub far-above : (eachDrop 20000 ≡ replicate 6 (1 ∷ bothRefused)) × (eachPickup 20000 ≡ replicate 3 (1 ∷ bothRefused))
+  pub highest-number : (eachDrop 65535 ≡ replicate 6 (1 ∷ bothRefused)) × (eachPickup 65535 ≡ replicate 3 (1 ∷ bothRefused))
   -- "age is 0 to 72, slot 0 to 7"
   pub ages : (aged 0 0 ≡ bothAccepted) × (aged 72 0 ≡ bothAccepted) × (aged 73 0 ≡ bothRefused) × (aged 255 0 ≡ bothRefused)
+  pub each-age : table 256 (λ age. soundOf (aging age 0)) ≡ replicate 73 true ++ replicate 183 false
+  pub each-slot : table 256 (λ slot. soundOf (aging 72 slot)) ≡ replicate 8 true ++ replicate 248 false
+  pub no-tie : table 73 (λ age. table 8 (λ slot. soundOf (aging age slot))) ≡ replicate 73 (replicate 8 true)
   pub slots : (aged 72 7 ≡ bothAccepted) × (aged 72 8 ≡ bothRefused) × (aged 72 255 ≡ bothRefused)
   -- "samples −512 to 511", in each slot
   pub samples : (inEachSlot (negℤ (pos 512)) ≡ replicate 8 eachAccepted) × (inEachSlot (pos 511) ≡ replicate 8 eachAccepted)
@@ -106,14 +108,18 @@ pub record SoundCalls : Type 0 where
   -- "loss runs 0 to 16", with the latch on or off
   pub loss-runs : (inEach (channel 16 0 false false) ≡ eachAccepted) × (inEach (channel 16 0 true false) ≡ eachAccepted)
   pub long-losses : (inEach (channel 17 0 true false) ≡ eachRefused) × (inEach (channel 255 0 false false) ≡ eachRefused)
+  pub each-loss : (table 256 (λ run. channelSound false (channel run 0 false false)) ≡ replicate 17 true ++ replicate 239 false)
+      × (table 256 (λ run. channelSound true (channel run 0 true false)) ≡ replicate 17 true ++ replicate 239 false)
   -- "over runs 0 to 4. A voltage has no over run and no over latch; a place kept for one must hold 0 or off."
   pub over-runs : (inEach (channel 0 1 false false) ≡ currentsAlone) × (inEach (channel 0 4 false false) ≡ currentsAlone)
   pub long-overs : (inEach (channel 0 5 false true) ≡ eachRefused) × (inEach (channel 0 255 false false) ≡ eachRefused)
+  pub each-over : (table 256 (λ run. channelSound true (channel 0 run false false)) ≡ replicate 5 true ++ replicate 251 false)
+      × (table 256 (λ run. channelSound true (channel 0 run false true)) ≡ replicate 5 true ++ replicate 251 false)
+      × (table 256 (λ run. channelSound false (channel 0 run false false)) ≡ true ∷ replicate 255 false)
   pub over-latches : (inEach (channel 0 0 false true) ≡ currentsAlone) × (inEach (channel 0 0 true false) ≡ eachAccepted)
 
 pub calls : SoundCalls
-unfolding every table windowSound dropsSound pickupsSound channelSound channelsSound soundOf freshRefusal freshOf acceptedFrame refusedFrame
-    codesSound inputRefusal frameRefusal frameOf acceptedReset refusedReset maskRefusal resetRefusal resetOf
+unfolding computed
 calls =
     record {
       bytes = (refl, refl);
@@ -123,7 +129,11 @@ calls =
       none = (refl, refl);
       above = (refl, refl);
       far-above = (refl, refl);
+      highest-number = (refl, refl);
       ages = (refl, refl, refl, refl);
+      each-age = refl;
+      each-slot = refl;
+      no-tie = refl;
       slots = (refl, refl, refl);
       samples = (refl, refl);
       low-samples = (refl, refl);
@@ -132,5 +142,7 @@ calls =
       long-losses = (refl, refl);
       over-runs = (refl, refl);
       long-overs = (refl, refl);
+      each-loss = (refl, refl);
+      each-over = (refl, refl, refl);
       over-latches = (refl, refl);
     }

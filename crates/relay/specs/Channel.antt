@@ -6,9 +6,9 @@ use mathlib.Core.List.{List, []}
 use lib.IntN.{ℤ, pos}
 use lib.Dec.{eqb}
 use lib.ListN.{set, replicate}
-use Rattle.phasor.specs.Window.{sampleOf}
+use Rattle.frames.specs.Codes.{sampleOf}
 use Rattle.relay.specs.declared.Channel.{Channel}
-use Rattle.relay.specs.declared.Levels.{Levels}
+use Rattle.relay.specs.declared.ChannelLevels.{ChannelLevels}
 use Rattle.relay.specs.Settings.{Kind, loss, over}
 
 -- what a list of channels reads as past its end
@@ -17,17 +17,32 @@ noChannel = record { samples = []; «loss_run» = 0; «over_run» = 0; «loss_la
 
 -- "A fresh window is eight zeros"; a fresh channel has "all runs 0, all latches off"
 unfoldable pub freshChannel : Channel
-freshChannel = record { samples = replicate 8 (pos 0); «loss_run» = 0; «over_run» = 0; «loss_latch» = false; «over_latch» = false }
+freshChannel =
+    record {
+      samples = replicate 8 (pos 0);
+      «loss_run» = 0;
+      «over_run» = 0;
+      «loss_latch» = false;
+      «over_latch» = false;
+    }
 
 -- what a reset that names the channel clears: "runs and latches .. and nothing else"
 abbrev pub clearedOf : Channel → Channel
-clearedOf ch = record { samples = ch .samples; «loss_run» = 0; «over_run» = 0; «loss_latch» = false; «over_latch» = false }
+clearedOf ch =
+    record {
+      samples = ch .samples;
+      «loss_run» = 0;
+      «over_run» = 0;
+      «loss_latch» = false;
+      «over_latch» = false;
+    }
 
 -- the window that step 1 leaves: the frame's sample in its slot
 abbrev pub windowAfter : ℕ → ℕ → Channel → List ℤ
 windowAfter slot code ch = set (ch .samples) slot (sampleOf code)
 
--- a run after steps 2 and 3: as it was in a frame that is not counted; otherwise grown by 1 up to its length where it is met, else 0
+-- a run after steps 2 and 3: as it was in a frame that is not counted; otherwise grown by 1 up to its length where it
+-- is met, else 0
 abbrev pub runAfter : Bool → Bool → ℕ → ℕ → ℕ
 runAfter counted met len run = cond counted (cond met (min len (suc run)) 0) run
 
@@ -39,10 +54,9 @@ nextRun kind counted enabled window run = runAfter counted (enabled && kind .mee
 abbrev pub nextLatch : Kind → ℕ → Bool → Bool
 nextLatch kind run latch = latch || eqb run (kind .len)
 
--- steps 1 to 4 of a frame, for one channel
-unfoldable pub channelAfter : Levels → ℕ → Bool → Bool → ℕ → Channel → Channel
-channelAfter levels slot counted enabled code ch =
-    let window : List ℤ = windowAfter slot code ch in
+-- a channel with the window that step 1 leaves, and what steps 2 to 4 make of the rest
+abbrev pub channelWith : ChannelLevels → Bool → Bool → List ℤ → Channel → Channel
+channelWith levels counted enabled window ch =
     let lossRun : ℕ = nextRun (loss levels) counted enabled window (ch .«loss_run») in
     let overRun : ℕ = nextRun (over levels) counted enabled window (ch .«over_run») in
     record {
@@ -52,6 +66,10 @@ channelAfter levels slot counted enabled code ch =
       «loss_latch» = nextLatch (loss levels) lossRun (ch .«loss_latch»);
       «over_latch» = nextLatch (over levels) overRun (ch .«over_latch»);
     }
+
+-- steps 1 to 4 of a frame, for one channel
+unfoldable pub channelAfter : ChannelLevels → ℕ → Bool → Bool → ℕ → Channel → Channel
+channelAfter levels slot counted enabled code ch = channelWith levels counted enabled (windowAfter slot code ch) ch
 
 -- the channel has a latch on
 abbrev pub latchOn : Channel → Bool

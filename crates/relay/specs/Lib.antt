@@ -1,6 +1,5 @@
-pub mod Bits
 pub mod Channel
-pub mod Inside
+pub mod Internal
 pub mod Relay
 pub mod Settings
 pub mod Sound

@@ -1,12 +1,16 @@
--- The relay's three calls, refusals included (document 01, "Frames, runs, latches, resets" and rows 1 to 5 of "Refusals").
--- Rests on one channel's rules and on what a sound relay is.
+-- The relay's three calls, refusals included (document 01, "Frames, runs, latches, resets" and rows 1 to
+-- 5 of "Refusals"). Rests on one channel's rules and on what a sound relay is.
 use Prim.Native.Nat.{ℕ, _+_}
 use mathlib.Core.Bool.{Bool, _&&_, _||_, not, cond}
-use mathlib.Core.List.{List}
+use mathlib.Core.List.{List, [], _∷_}
 use lib.IntN.{ℤ}
 use lib.Dec.{ltb, leb, eqb}
 use lib.ListN.{getD, replicate}
-use Rattle.phasor.specs.Each.{table}
+use Rattle.lists.specs.Each.{table}
+use Rattle.refusals.specs.Refusals.{Check, _orElse_, firstFault, accepted}
+use Rattle.refusals.specs.Refusals.{badSetting, unsoundRelay, badCode, badEnable, badMask}
+use Rattle.frames.specs.Codes.{codesInRange}
+use Rattle.frames.specs.Bits.{bitOf, bitsBelow, enabledIn}
 use Rattle.phasor.specs.Cordic.{amplitudeOf}
 use Rattle.relay.specs.declared.Channel.{Channel}
 use Rattle.relay.specs.declared.Settings.{Settings}
@@ -14,8 +18,7 @@ use Rattle.relay.specs.declared.Relay.{Relay}
 use Rattle.relay.specs.declared.FreshAnswer.{FreshAnswer}
 use Rattle.relay.specs.declared.FrameAnswer.{FrameAnswer}
 use Rattle.relay.specs.declared.ResetAnswer.{ResetAnswer}
-use Rattle.relay.specs.Bits.{bitOf, bitsBelow, enabledIn}
-use Rattle.relay.specs.Settings.{settingsOf, settingsSound, levelsOf, inRange, settled}
+use Rattle.relay.specs.Settings.{settingsSound, zeroSettings, levelsOf, settled}
 use Rattle.relay.specs.Channel.{noChannel, freshChannel, clearedOf, windowAfter, channelAfter, latchOn}
 use Rattle.relay.specs.Sound.{soundOf}
 
@@ -30,19 +33,20 @@ freshRelay s = record { channels = replicate 6 freshChannel; age = 0; slot = 0; 
 
 -- what refusal 1 returns
 unfoldable pub zeroRelay : Relay
-zeroRelay = freshRelay (settingsOf (replicate 6 0) (replicate 3 0))
+zeroRelay = freshRelay zeroSettings
+
+-- making a relay has one check
+abbrev pub freshChecks : Settings → List Check
+freshChecks s = (settingsSound s orElse badSetting) ∷ []
 
 unfoldable pub freshRefusal : Settings → ℕ
-freshRefusal s =
-    cond (not (settingsSound s)) 1  -- "a setting outside 1 to 10,700"
-    0
+freshRefusal s = firstFault (freshChecks s)
 
-unfoldable pub freshOf : List ℕ → List ℕ → FreshAnswer
-freshOf drop pickup =
-    let s : Settings = settingsOf drop pickup in
-    cond (eqb (freshRefusal s) 0)
-    (record { relay = freshRelay s; number = 0 })
-    (record { relay = zeroRelay; number = freshRefusal s })
+unfoldable pub freshOf : Settings → FreshAnswer
+freshOf s =
+    cond (eqb (freshRefusal s) accepted)
+    (record { relay = freshRelay s; refusal = accepted })
+    (record { relay = zeroRelay; refusal = freshRefusal s })
 
 -- ---- a frame
 
@@ -58,8 +62,8 @@ ageAfter age = cond (ltb age settled) (age + 1) age
 abbrev pub slotAfter : ℕ → ℕ
 slotAfter slot = cond (ltb slot 7) (slot + 1) 0
 
--- What a frame makes of channel c is said of the parts of the relay that it goes by: the settings, the slot, whether the frame is counted, and the
--- channels. The code's functions are handed these, and not the whole relay.
+-- What a frame makes of channel c is said of the parts of the relay that it goes by: the settings, the slot, whether
+-- the frame is counted, and the channels. The code's functions are handed these, and not the whole relay.
 
 -- step 1: the window with the frame's sample in its slot, and its amplitude
 abbrev pub windowIn : ℕ → List ℕ → List Channel → ℕ → List ℤ
@@ -75,47 +79,46 @@ nextChannel settings slot isCounted codes enable channels c =
 
 -- step 5: "bit c is 1 if channel c has a latch on and is enabled in this frame"
 unfoldable pub outputIn : Settings → ℕ → Bool → List ℕ → ℕ → List Channel → ℕ → Bool
-outputIn settings slot isCounted codes enable channels c = latchOn (nextChannel settings slot isCounted codes enable channels c) && enabledIn enable c
+outputIn settings slot isCounted codes enable channels c =
+    latchOn (nextChannel settings slot isCounted codes enable channels c) && enabledIn enable c
 
 -- "An accepted frame, in order": its five steps
 unfoldable pub acceptedFrame : Relay → List ℕ → ℕ → FrameAnswer
 acceptedFrame r codes enable =
     record {
       relay = record {
-        channels = table 6 (nextChannel (r .settings) (r .slot) (counted r) codes enable (r .channels));  -- 1 stores the samples, 2 and 3 count the runs, 4 turns latches on
+        -- 1 stores the samples, 2 and 3 count the runs, 4 turns latches on
+        channels = table 6 (nextChannel (r .settings) (r .slot) (counted r) codes enable (r .channels));
         age = ageAfter (r .age);  -- 2
         slot = slotAfter (r .slot);  -- 5
         settings = r .settings;
       };
-      number = 0;
-      amplitudes = table 6 (amplitudeIn (r .slot) codes (r .channels));  -- 1 finds the six amplitudes, 5 answers them
-      output = bitsBelow 6 (outputIn (r .settings) (r .slot) (counted r) codes enable (r .channels));  -- 5
+      refusal = accepted;
+      -- 1 finds the six amplitudes, 5 answers them with the output
+      amplitudes = table 6 (amplitudeIn (r .slot) codes (r .channels));
+      output = bitsBelow 6 (outputIn (r .settings) (r .slot) (counted r) codes enable (r .channels));
     }
 
 -- what refusals 2, 3 and 4 return: "relay as given, amplitudes and output 0"
 unfoldable pub refusedFrame : Relay → ℕ → FrameAnswer
-refusedFrame r number = record { relay = r; number = number; amplitudes = replicate 6 0; output = 0 }
+refusedFrame r refusal = record { relay = r; refusal = refusal; amplitudes = replicate 6 0; output = 0 }
 
--- "A code is 0 to 1023"
-unfoldable pub codesSound : List ℕ → Bool
-codesSound codes = inRange 6 0 1023 codes
+-- "A frame checks 2, 3, 4": on a sound relay "codes, enable byte .. alone decide"
+abbrev pub inputChecks : List ℕ → ℕ → List Check
+inputChecks codes enable = (codesInRange codes orElse badCode) ∷ (not (bitOf enable 7) orElse badEnable) ∷ []
 
--- "codes, enable byte .. alone decide"
 unfoldable pub inputRefusal : List ℕ → ℕ → ℕ
-inputRefusal codes enable =
-    cond (not (codesSound codes)) 3  -- "a code above 1023"
-    (cond (bitOf enable 7) 4  -- "enable bit 7 is 1"
-    0)
+inputRefusal codes enable = firstFault (inputChecks codes enable)
 
--- "A frame checks 2, 3, 4"
+abbrev pub frameChecks : Relay → List ℕ → ℕ → List Check
+frameChecks r codes enable = (soundOf r orElse unsoundRelay) ∷ inputChecks codes enable
+
 unfoldable pub frameRefusal : Relay → List ℕ → ℕ → ℕ
-frameRefusal r codes enable =
-    cond (not (soundOf r)) 2  -- "relay not sound"
-    (inputRefusal codes enable)
+frameRefusal r codes enable = firstFault (frameChecks r codes enable)
 
 unfoldable pub frameOf : Relay → List ℕ → ℕ → FrameAnswer
 frameOf r codes enable =
-    cond (eqb (frameRefusal r codes enable) 0)
+    cond (eqb (frameRefusal r codes enable) accepted)
     (acceptedFrame r codes enable)
     (refusedFrame r (frameRefusal r codes enable))
 
@@ -129,28 +132,34 @@ resetChannel mask channels c = cond (bitOf mask c) (clearedOf (getD channels c n
 unfoldable pub acceptedReset : Relay → ℕ → ResetAnswer
 acceptedReset r mask =
     record {
-      relay = record { channels = table 6 (resetChannel mask (r .channels)); age = r .age; slot = r .slot; settings = r .settings };
-      number = 0;
+      relay = record {
+        channels = table 6 (resetChannel mask (r .channels));
+        age = r .age;
+        slot = r .slot;
+        settings = r .settings;
+      };
+      refusal = accepted;
     }
 
 -- what refusals 2 and 5 return: "relay as given"
 unfoldable pub refusedReset : Relay → ℕ → ResetAnswer
-refusedReset r number = record { relay = r; number = number }
+refusedReset r refusal = record { relay = r; refusal = refusal }
 
--- the mask alone decides
+-- "a reset 2, 5": on a sound relay the "mask alone" decides
+abbrev pub maskChecks : ℕ → List Check
+maskChecks mask = (not (bitOf mask 6 || bitOf mask 7) orElse badMask) ∷ []
+
 unfoldable pub maskRefusal : ℕ → ℕ
-maskRefusal mask =
-    cond (bitOf mask 6 || bitOf mask 7) 5  -- "reset mask bit 6 or 7 is 1"
-    0
+maskRefusal mask = firstFault (maskChecks mask)
 
--- "a reset 2, 5"
+abbrev pub resetChecks : Relay → ℕ → List Check
+resetChecks r mask = (soundOf r orElse unsoundRelay) ∷ maskChecks mask
+
 unfoldable pub resetRefusal : Relay → ℕ → ℕ
-resetRefusal r mask =
-    cond (not (soundOf r)) 2  -- "relay not sound"
-    (maskRefusal mask)
+resetRefusal r mask = firstFault (resetChecks r mask)
 
 unfoldable pub resetOf : Relay → ℕ → ResetAnswer
 resetOf r mask =
-    cond (eqb (resetRefusal r mask) 0)
+    cond (eqb (resetRefusal r mask) accepted)
     (acceptedReset r mask)
     (refusedReset r (resetRefusal r mask))

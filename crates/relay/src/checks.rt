@@ -1,49 +1,13 @@
-// The checks that a call can be refused by: settings, codes, and whether a relay is sound (document 01, end of "Frames, runs, latches, resets").
+// Whether a relay that is handed in is sound (document 01, end of "Frames, runs, latches, resets").
 ghost use mathlib.Core.Path.{_≡_};
-ghost use lib.ListN.{length};
-ghost use Rattle.relay.specs.Settings.{inRange, settingsSound};
 ghost use Rattle.relay.specs.Sound.{overSound, channelSound, channelsSound, soundOf};
-ghost use Rattle.relay.specs.Relay.{codesSound};
+ghost use Rattle.relay.specs.Internal.{stateSound, windowsSound, statesSound, restSound};
 use crate::Channel;
 use crate::Relay;
 use crate::Settings;
-use crate::steps::LOSS_FRAMES;
-use crate::steps::OVER_FRAMES;
-use crate::steps::SETTLED;
-
-const MOST_LEVEL: u16 = 10700;
-
-const MOST_CODE: u16 = 1023;
-
-// Each of the values is at least `least` and at most `most`.
-fn in_range(values: &[u16], least: u16, most: u16) -> bool
-    ensures { λ r. ⌜ r ≡ inRange (length (now (values .entry))) least most (now (values .entry)) ⌝ }
-{
-    let mut ok = true;
-    let mut k: usize = 0;
-    while k < values.len() {
-        let v = values[k];
-        ok = ok & ((least <= v) & (v <= most));
-        k += 1;
-    }
-    ok
-}
-
-pub(crate) fn codes_sound(codes: [u16; 6]) -> bool
-    ensures { λ r. ⌜ r ≡ codesSound codes ⌝ }
-{
-    in_range(&codes, 0, MOST_CODE)
-}
-
-impl Settings {
-    pub(crate) fn sound(self) -> bool
-        ensures { λ r. ⌜ r ≡ settingsSound self ⌝ }
-    {
-        let drop = self.drop;
-        let pickup = self.pickup;
-        in_range(&drop, 1, MOST_LEVEL) & in_range(&pickup, 1, MOST_LEVEL)
-    }
-}
+use crate::levels::LOSS_FRAMES;
+use crate::levels::OVER_FRAMES;
+use crate::levels::SETTLED;
 
 // A current's over run is 0 to 4; a voltage has none, and no over latch.
 fn over_sound(current: bool, ch: Channel) -> bool
@@ -56,13 +20,51 @@ fn over_sound(current: bool, ch: Channel) -> bool
     }
 }
 
+// A channel's runs and latches.
+fn state_sound(current: bool, ch: Channel) -> bool
+    ensures { λ r. ⌜ r ≡ stateSound current ch ⌝ }
+{
+    (ch.loss_run <= LOSS_FRAMES) & over_sound(current, ch)
+}
+
+// The samples of all channels, with no early return: the compiler then tests eight at a time, and the outcome once.
+fn windows_sound(channels: [Channel; 6]) -> bool
+    ensures { λ r. ⌜ r ≡ windowsSound channels ⌝ }
+{
+    let mut ok = true;
+    let mut c: usize = 0;
+    while c < 6 {
+        let ch = channels[c];
+        let window = ch.samples;
+        ok = ok & phasor::window_sound(window);
+        c += 1;
+    }
+    ok
+}
+
+// The runs and latches of all channels.
+fn states_sound(channels: [Channel; 6]) -> bool
+    ensures { λ r. ⌜ r ≡ statesSound channels ⌝ }
+{
+    let mut c: usize = 0;
+    while c < 6 {
+        if !state_sound(3 <= c, channels[c]) {
+            return false;
+        }
+        c += 1;
+    }
+    true
+}
+
+// One channel: its samples, its runs and latches.
 fn channel_sound(current: bool, ch: Channel) -> bool
     ensures { λ r. ⌜ r ≡ channelSound current ch ⌝ }
 {
     let window = ch.samples;
-    phasor::window_sound(window) & (ch.loss_run <= LOSS_FRAMES) & over_sound(current, ch)
+    phasor::window_sound(window) & state_sound(current, ch)
 }
 
+// The six channels, one after the other.
 fn channels_sound(channels: [Channel; 6]) -> bool
     ensures { λ r. ⌜ r ≡ channelsSound channels ⌝ }
 {
@@ -76,11 +78,32 @@ fn channels_sound(channels: [Channel; 6]) -> bool
     true
 }
 
+// What a relay has besides its channels.
+fn rest_sound(settings: Settings, age: u8, slot: u8) -> bool
+    ensures { λ r. ⌜ r ≡ restSound settings age slot ⌝ }
+{
+    settings.sound() & (age <= SETTLED) & (slot <= 7)
+}
+
+// Two functions for one predicate. Each has one caller, and so is compiled into it: a relay that goes by value to a
+// function with two callers is copied for each call. A frame's is the quicker one, a reset's the shorter.
 impl Relay {
-    pub(crate) fn sound(self) -> bool
+    // Whether a relay handed to `frame` is sound: all samples first, then all runs and latches.
+    pub(crate) fn sound_for_frame(self) -> bool
         ensures { λ r. ⌜ r ≡ soundOf self ⌝ }
     {
         let channels = self.channels;
-        self.settings.sound() & (self.age <= SETTLED) & (self.slot <= 7) & channels_sound(channels)
+        let settings = self.settings;
+        rest_sound(settings, self.age, self.slot)
+            & (windows_sound(channels) & states_sound(channels))
+    }
+
+    // Whether a relay handed to `reset` is sound: channel after channel.
+    pub(crate) fn sound_for_reset(self) -> bool
+        ensures { λ r. ⌜ r ≡ soundOf self ⌝ }
+    {
+        let channels = self.channels;
+        let settings = self.settings;
+        rest_sound(settings, self.age, self.slot) & channels_sound(channels)
     }
 }

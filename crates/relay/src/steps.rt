@@ -2,30 +2,26 @@
 // (document 01, "Frames, runs, latches, resets").
 ghost use mathlib.Core.Path.{_≡_};
 ghost use mathlib.Core.Bool.{true, cond};
-ghost use Prim.Native.Nat.{_≤_, _<_};
+ghost use Prim.Native.Nat.{_<_};
 ghost use Rattle.phasor.specs.Cordic.{amplitudeOf};
-ghost use Rattle.relay.specs.Settings.{levelsOf};
-ghost use Rattle.relay.specs.Channel.{freshChannel, clearedOf, windowAfter, runAfter, channelAfter};
-ghost use Rattle.relay.specs.Relay.{codesSound, ageAfter, slotAfter};
-ghost use Rattle.relay.specs.Inside.{storedWindow, windowsOf, amplitudesOf, madeOf, resetsOf};
+ghost use Rattle.frames.specs.Codes.{codeLimit, codesInRange};
+ghost use Rattle.phasor.specs.Lanes.{amplitudesOf};
+ghost use Rattle.relay.specs.Channel.{freshChannel, clearedOf, runAfter, channelWith};
+ghost use Rattle.relay.specs.Relay.{ageAfter, slotAfter};
+ghost use Rattle.relay.specs.Internal.{storedWindow, windowsOf, channelsAndOutput, resetsOf};
 use crate::Channel;
-use crate::Levels;
-use crate::Made;
+use crate::ChannelLevels;
+use crate::ChannelsAndOutput;
 use crate::Settings;
-use crate::bits::bit;
-use crate::bits::enabled_in;
-use crate::bits::with_bit;
+use crate::levels::LOSS_FRAMES;
+use crate::levels::OVER_FRAMES;
+use crate::levels::SETTLED;
+use frames::bits::bit;
+use frames::bits::enabled_in;
+use frames::bits::with_bit;
 
-// A frame that finds this age is counted.
-pub(crate) const SETTLED: u8 = 72;
-
-// The frames of a full loss run, and of a full over run.
-pub(crate) const LOSS_FRAMES: u8 = 16;
-
-pub(crate) const OVER_FRAMES: u8 = 4;
-
-// A run after steps 2 and 3: kept in a frame that is not counted, otherwise grown up to its length where the channel is enabled and its level
-// met, else 0.
+// A run after steps 2 and 3: kept in a frame that is not counted, otherwise grown up to its length where the channel is
+// enabled and its level met, else 0.
 fn run_after(counted: bool, met: bool, run: u8, len: u8) -> u8
     ensures { λ r. ⌜ r ≡ runAfter counted met len run ⌝ }
 {
@@ -69,32 +65,34 @@ impl Channel {
         }
     }
 
-    // The window with the frame's sample in its slot.
+    // The window with the frame's sample in its slot. Each slot is looked at: one store of two bytes into a window that
+    // is then read as sixteen would be waited for.
     fn window_after(self, slot: usize, code: u16) -> phasor::Window
-        requires { ⌜ (slot < 8) × (code ≤ 1023) ⌝ }
+        requires { ⌜ (slot < 8) × (code < codeLimit) ⌝ }
         ensures { λ r. ⌜ r ≡ storedWindow slot code self ⌝ }
     {
         let mut samples = self.samples;
-        let s = phasor::sample(code);
-        samples[slot] = s;
+        let s = frames::codes::sample(code);
+        for k in 0..8 {
+            if k == slot {
+                samples[k] = s;
+            }
+        }
         phasor::Window { samples: samples }
     }
 
-    // Steps 1 to 4 of a frame, where m is the amplitude of the window with the frame's sample. The window is made anew: six of them handed on from
-    // the amplitudes would lie in memory, and cost a fifth of the frame.
+    // Steps 1 to 4 of a frame, where the window has the frame's sample in its slot, and m is its amplitude.
     pub(crate) fn after(
         self,
-        levels: Levels,
-        slot: usize,
+        levels: ChannelLevels,
+        window: phasor::Window,
         counted: bool,
         enabled: bool,
-        code: u16,
         m: u16,
     ) -> Channel
-        requires { ⌜ (slot < 8) × (code ≤ 1023) × (m ≡ amplitudeOf (windowAfter slot code self)) ⌝ }
-        ensures { λ r. ⌜ r ≡ channelAfter levels slot counted enabled code self ⌝ }
+        requires { ⌜ m ≡ amplitudeOf (window .samples) ⌝ }
+        ensures { λ r. ⌜ r ≡ channelWith levels counted enabled (window .samples) self ⌝ }
     {
-        let window = self.window_after(slot, code);
         let samples = window.samples;
         let below = enabled & (m < levels.drop);
         let above = enabled & (levels.current & (levels.pickup <= m));
@@ -110,36 +108,13 @@ impl Channel {
     }
 }
 
-impl Settings {
-    // The levels of one channel.
-    pub(crate) fn levels(self, c: usize) -> Levels
-        requires { ⌜ c < 6 ⌝ }
-        ensures { λ r. ⌜ r ≡ levelsOf self c ⌝ }
-    {
-        let drop = self.drop[c];
-        if c < 3 {
-            return Levels {
-                drop: drop,
-                pickup: 0,
-                current: false,
-            };
-        }
-        let pickup = self.pickup[c - 3];
-        Levels {
-            drop: drop,
-            pickup: pickup,
-            current: true,
-        }
-    }
-}
-
 // The six windows with the frame's samples in their slot.
 pub(crate) fn windows_after(
     channels: [Channel; 6],
     slot: usize,
     codes: [u16; 6],
 ) -> [phasor::Window; 6]
-    requires { ⌜ (slot < 8) × (codesSound codes ≡ true) ⌝ }
+    requires { ⌜ (slot < 8) × (codesInRange codes ≡ true) ⌝ }
     ensures { λ r. ⌜ r ≡ windowsOf slot codes channels ⌝ }
 {
     let mut windows = [phasor::Window { samples: [0; 8] }; 6];
@@ -152,18 +127,17 @@ pub(crate) fn windows_after(
     windows
 }
 
-// Steps 1 to 4 for each channel, and the output byte of step 5.
+// Steps 1 to 4 for each channel, and the output byte of step 5, from the windows of step 1 and their amplitudes.
 pub(crate) fn channels_after(
     old: [Channel; 6],
     settings: Settings,
-    slot: usize,
+    windows: [phasor::Window; 6],
     counted: bool,
-    codes: [u16; 6],
     amplitudes: [u16; 6],
     enable: u8,
-) -> Made
-    requires { ⌜ (slot < 8) × (codesSound codes ≡ true) × (amplitudes ≡ amplitudesOf slot codes old) ⌝ }
-    ensures { λ r. ⌜ r ≡ madeOf settings slot counted codes enable old ⌝ }
+) -> ChannelsAndOutput
+    requires { ⌜ amplitudes ≡ amplitudesOf windows ⌝ }
+    ensures { λ r. ⌜ r ≡ channelsAndOutput settings counted enable windows old ⌝ }
 {
     let mut channels = old;
     let mut output: u8 = 0;
@@ -171,13 +145,13 @@ pub(crate) fn channels_after(
     while c < 6 {
         let enabled = enabled_in(enable, c);
         let levels = settings.levels(c);
-        let channel = old[c].after(levels, slot, counted, enabled, codes[c], amplitudes[c]);
+        let channel = old[c].after(levels, windows[c], counted, enabled, amplitudes[c]);
         let on = (channel.loss_latch | channel.over_latch) & enabled;
         channels[c] = channel;
         output = with_bit(output, c, on);
         c += 1;
     }
-    Made {
+    ChannelsAndOutput {
         channels: channels,
         output: output,
     }

@@ -1,9 +1,14 @@
-// Runs the relay over frames of a small generator's codes and prints the sum of all amplitudes and output bytes: 64 frames for each byte on
-// standard input. Its stored output was made by the second implementation; reference/benchmark runs it on longer inputs.
+// Runs the relay over frames of a small generator's codes and prints the sum of all amplitudes and output bytes: 64
+// frames for each byte on standard input. Its stored output was made by the second implementation; reference/benchmark
+// runs it on longer inputs.
 ghost use Prim.Native.Nat.{_<_, _^_};
 use libc::STDIN_FILENO;
 use libc::STDOUT_FILENO;
 use relay::Relay;
+use relay::Settings;
+
+// So many bytes are read at most.
+const MOST_INPUT: usize = 4096;
 
 // The next state of the generator.
 fn next(state: u64) -> u64
@@ -13,6 +18,7 @@ fn next(state: u64) -> u64
     (state * 1103515245 + 12345) % 2147483648
 }
 
+// Six codes, and the generator's state after them.
 struct Drawn {
     state: u64,
     codes: [u16; 6],
@@ -34,12 +40,14 @@ fn draw(seed: u64) -> Drawn {
     }
 }
 
+// An amplitude as a large number.
 fn wide(x: u16) -> u64
     ensures { λ r. ⌜ r < 2 ^ 16 ⌝ }
 {
     x as u64
 }
 
+// The sum of a frame's amplitudes and output byte.
 fn total(amplitudes: [u16; 6], output: u8) -> u64 {
     let mut sum: u64 = output as u64;
     let mut c: usize = 0;
@@ -57,7 +65,10 @@ fn enable_at(n: u64) -> u8 {
 
 // One call of `frame`, so that it is compiled into the loop.
 fn run(frames: u64) -> u64 {
-    let made = Relay::fresh([819; 6], [3413; 3]);
+    let made = Relay::fresh(Settings {
+        drop: [819; 6],
+        pickup: [3413; 3],
+    });
     let mut relay = made.relay;
     let mut state: u64 = 1;
     let mut sum: u64 = 0;
@@ -75,8 +86,9 @@ fn run(frames: u64) -> u64 {
     sum
 }
 
+// 64 frames for each byte of the input, and their sum.
 fn main() {
-    let mut input = [0u8; 4096];
+    let mut input = [0u8; MOST_INPUT];
     let got = io::read_full(STDIN_FILENO, &mut input);
     io::print_decimal(STDOUT_FILENO, run(64 * (got as u64)));
     io::write_all(STDOUT_FILENO, b"\n");

@@ -1,3 +1,4 @@
+pub mod Computed
 pub mod Example
 pub mod Laws
 pub mod Lines

@@ -2,10 +2,15 @@
 // each call. The stored output was made by a second implementation.
 use libc::STDOUT_FILENO;
 use relay::Relay;
+use relay::Settings;
 
 // 100, 71, 0, −71, −100, −71, 0, 71 as codes: its amplitude is 1603.
 const WAVE: [u16; 8] = [612, 583, 512, 441, 412, 441, 512, 583];
 
+// The code of a sample of 0.
+const QUIET: u16 = frames::MIDDLE_CODE;
+
+// So many frames are run.
 const FRAMES: u16 = 130;
 
 // Channel 3 is disabled for four frames.
@@ -22,7 +27,7 @@ fn enable_in(n: u16) -> u8 {
 // Frame n with the wave on channels 3 and 4: its line, as in the bench program.
 fn show_frame(relay: Relay, n: u16) -> Relay {
     let code = WAVE[(n % 8) as usize];
-    let answer = relay.frame([512, 512, 512, code, code, 512], enable_in(n));
+    let answer = relay.frame([QUIET, QUIET, QUIET, code, code, QUIET], enable_in(n));
     let amplitudes = answer.amplitudes;
     let mut line = [0u8; 45];
     let m = text::put_frame_line(&mut line, 0, n, amplitudes, answer.output);
@@ -30,13 +35,13 @@ fn show_frame(relay: Relay, n: u16) -> Relay {
     answer.relay
 }
 
-// A reset: its mask and the number that it answers.
+// A reset: its mask and the refusal that it answers.
 fn show_reset(relay: Relay, mask: u8) -> Relay {
     let answer = relay.reset(mask);
     io::write_all(STDOUT_FILENO, b"reset ");
     io::print_decimal(STDOUT_FILENO, mask as u64);
     io::write_all(STDOUT_FILENO, b" answers ");
-    io::print_decimal(STDOUT_FILENO, answer.number as u64);
+    io::print_decimal(STDOUT_FILENO, answer.refusal as u64);
     io::write_all(STDOUT_FILENO, b"\n");
     answer.relay
 }
@@ -58,8 +63,12 @@ fn reset_after(relay: Relay, n: u16) -> Relay {
     relay
 }
 
+// Each frame, and the reset that follows it.
 fn main() {
-    let made = Relay::fresh([1; 6], [1603; 3]);
+    let made = Relay::fresh(Settings {
+        drop: [1; 6],
+        pickup: [1603; 3],
+    });
     let mut relay = made.relay;
     let mut n: u16 = 0;
     while n < FRAMES {

@@ -1,4 +1,4 @@
-//! What the differential tests share: the flags and the tally of the numbers that were answered.
+//! What the differential tests share: the flags and the tally of the refusals that were answered.
 
 use reference::prng::Prng;
 
@@ -22,19 +22,19 @@ impl Flags {
     }
 }
 
-/// How often each number was answered.
+/// How often each refusal was answered.
 #[derive(Default)]
-pub struct Numbers([u64; 14]);
+pub struct Refusals([u64; 14]);
 
-impl Numbers {
-    pub fn count(&mut self, number: u8) {
-        self.0[usize::from(number)] += 1;
+impl Refusals {
+    pub fn count(&mut self, refusal: u8) {
+        self.0[usize::from(refusal)] += 1;
     }
 
-    /// Prints the tally of the numbers, and fails where one of them came fewer than 100 times.
-    pub fn show(&self, numbers: std::ops::RangeInclusive<usize>) {
-        let tally: Vec<String> = numbers.clone().map(|k| format!("{k}: {}", self.0[k])).collect();
+    /// Prints the tally of the refusals, and fails where one of them came fewer than 100 times.
+    pub fn show(&self, rows: std::ops::RangeInclusive<usize>) {
+        let tally: Vec<String> = rows.clone().map(|k| format!("{k}: {}", self.0[k])).collect();
         println!("  accepted {}, refused by {}", self.0[0], tally.join(", "));
-        assert!(numbers.clone().all(|k| self.0[k] >= 100), "a refusal came fewer than 100 times");
+        assert!(rows.clone().all(|k| self.0[k] >= 100), "a refusal came fewer than 100 times");
     }
 }

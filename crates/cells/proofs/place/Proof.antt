@@ -13,14 +13,10 @@ returns-2 c = search place-cases
 returns-3 : tie.Need-returns-3
 returns-3 c = search place-cases
 
-mul-t6 : tie.Need-mul-t6
-mul-t6 c = search needs
-
-mul-t5 : tie.Need-mul-t5
-mul-t5 c = search needs
-
 returns-4 : tie.Need-returns-4
 returns-4 c = search place-cases
 
 pub place-spec : {M : Type 1} → statement M
-place-spec = tie.close (tie.spec returns returns-2 returns-3 mul-t6 mul-t5 returns-4)
+place-spec =
+    tie.close
+    (tie.spec returns returns-2 returns-3 (λ c. search needs) (λ c. search needs) returns-4)

@@ -4,20 +4,11 @@ use borrow.Author.Needs.{needs}
 use Rattle.cells.proofs.square_of.Statement.{statement}
 use Rattle.cells.proofs.square_of.Tie as tie
 
-sub-below : tie.Need-sub-below
-sub-below c = search needs
-
-cast-below : tie.Need-cast-below
-cast-below c = search needs
-
 mul-result : tie.Need-mul-result
 mul-result c = search square-cases
 
 returns : tie.Need-returns
 returns c = search squared-low
-
-cast-above : tie.Need-cast-above
-cast-above c = search needs
 
 mul-result-2 : tie.Need-mul-result-2
 mul-result-2 c = search square-cases
@@ -27,4 +18,5 @@ returns-2 c = squared-high _ (c .if1 .left) (c .before .pre)
 
 pub square-of-spec : {M : Type 1} → statement M
 square-of-spec =
-    tie.close (tie.spec sub-below cast-below mul-result returns cast-above mul-result-2 returns-2)
+    tie.close
+    (tie.spec (λ c. search needs) (λ c. search needs) mul-result returns (λ c. search needs) mul-result-2 returns-2)

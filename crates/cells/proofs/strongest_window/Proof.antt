@@ -12,26 +12,14 @@ Inv-loop cells channel last best₀ f₀ best f = StrongestRead cells channel be
 abbrev μ-loop : tie.MeasureT-loop
 μ-loop cells channel last best₀ f₀ best f = last - f
 
-sub-last : tie.Need-sub-last Inv-loop μ-loop
-sub-last c = omega arith
-
 window-sum-requires : tie.Need-window-sum-requires Inv-loop μ-loop
 window-sum-requires c κs = (search strongest-loop, search strongest-loop)
 
 loop-holds : tie.Need-loop-holds Inv-loop μ-loop
 loop-holds c = search strongest-loop
 
-add-f : tie.Need-add-f Inv-loop μ-loop
-add-f c = omega arith
-
 window-sum-requires-2 : tie.Need-window-sum-requires-2 Inv-loop μ-loop
 window-sum-requires-2 c κs = (search strongest-loop, search strongest-loop)
-
-stronger-requires : tie.Need-stronger-requires Inv-loop μ-loop
-stronger-requires c κs = search needs
-
-loop-less : tie.Need-loop-less Inv-loop μ-loop
-loop-less c = omega arith
 
 loop-again : tie.Need-loop-again Inv-loop μ-loop
 loop-again c = search strongest-loop
@@ -42,15 +30,5 @@ returns c = search strongest-loop
 pub strongest-window-spec : {M : Type 1} → statement M
 strongest-window-spec =
     tie.close
-    (tie.spec
-    Inv-loop
-    μ-loop
-    sub-last
-    window-sum-requires
-    loop-holds
-    add-f
-    window-sum-requires-2
-    stronger-requires
-    loop-less
-    loop-again
-    returns)
+    (tie.spec Inv-loop μ-loop (λ c. omega arith) window-sum-requires loop-holds (λ c. omega arith)
+    window-sum-requires-2 (λ c κs. search needs) (λ c. omega arith) loop-again returns)

@@ -20,7 +20,9 @@ returns : tie.Need-returns
 returns c = z (c .before) .reads ∙ abs-yes (c .before .args .z) (le-test (held-lit {n = 0} tt) (z (c .before)) (c .if1 .taken))
 
 returns-2 : tie.Need-returns-2
-returns-2 c = diff (held-lit {n = 0} tt) (z (c .before)) (lit< tt) .reads ∙ abs-no (c .before .args .z) (le-test (held-lit {n = 0} tt) (z (c .before)) (c .if1 .left))
+returns-2 c =
+    diff (held-lit {n = 0} tt) (z (c .before)) (lit< tt) .reads
+    ∙ abs-no (c .before .args .z) (le-test (held-lit {n = 0} tt) (z (c .before)) (c .if1 .left))
 
 pub absolute-spec : {M : Type 1} → statement M
 absolute-spec = tie.close (tie.spec sub-result returns returns-2)

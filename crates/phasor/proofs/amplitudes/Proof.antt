@@ -17,31 +17,13 @@ starts-requires : tie.Need-starts-requires Inv-loop μ-loop
 starts-requires c κs = c .pre
 
 ends-requires : tie.Need-ends-requires Inv-loop μ-loop
-ends-requires c κs = c .starts .ensures .short
+ends-requires c κs = c .starts .ensures .fit
 
 loop-holds : tie.Need-loop-holds Inv-loop μ-loop
 loop-holds c = search scaling-begin
 
-mul-scaled : tie.Need-mul-scaled Inv-loop μ-loop
-mul-scaled c = search needs
-
-array-copy-out-scaled : tie.Need-array-copy-out-scaled Inv-loop μ-loop
-array-copy-out-scaled c = search needs
-
 scaled-requires : tie.Need-scaled-requires Inv-loop μ-loop
 scaled-requires c κs = (search end-right, search end-small)
-
-mul-m : tie.Need-mul-m Inv-loop μ-loop
-mul-m c = search needs
-
-array-write-m : tie.Need-array-write-m Inv-loop μ-loop
-array-write-m c = search needs
-
-add-c : tie.Need-add-c Inv-loop μ-loop
-add-c c = search needs
-
-loop-less : tie.Need-loop-less Inv-loop μ-loop
-loop-less c = search needs
 
 loop-again : tie.Need-loop-again Inv-loop μ-loop
 loop-again c = search scaling-again
@@ -58,18 +40,6 @@ returns c =
 pub amplitudes-spec : {M : Type 1} → statement M
 amplitudes-spec =
     tie.close
-    (tie.spec
-    Inv-loop
-    μ-loop
-    starts-requires
-    ends-requires
-    loop-holds
-    mul-scaled
-    array-copy-out-scaled
-    scaled-requires
-    mul-m
-    array-write-m
-    add-c
-    loop-less
-    loop-again
+    (tie.spec Inv-loop μ-loop starts-requires ends-requires loop-holds (λ c. search needs) (λ c. search needs)
+    scaled-requires (λ c. search needs) (λ c. search needs) (λ c. search needs) (λ c. search needs) loop-again
     returns)

@@ -24,17 +24,12 @@ step-requires c κs =
     let r = ranged (b .before .args .p) (b .before .pre) (b .loop .i) (b .loop .inv .0) in
     rw (b .loop .inv .1) (omega arith, omega (arith, r .x), omega (arith, r .y))
 
-add-i : tie.Need-add-i Inv-loop μ-loop
-add-i c = omega arith
-
-loop-less : tie.Need-loop-less Inv-loop μ-loop
-loop-less c = omega arith
-
 loop-again : tie.Need-loop-again Inv-loop μ-loop
 unfolding steps
 loop-again c =
     let b = c .before .before in
-    (omega arith, c .step .ensures ∙ ap (stepAt (b .loop .i)) (b .loop .inv .1) ∙ ap (λ (n : ℕ). steps n (b .before .args .p)) (sym (add-one (b .loop .i))))
+    let next = c .step .ensures ∙ ap (stepAt (b .loop .i)) (b .loop .inv .1) in
+    (omega arith, next ∙ ap (λ (n : ℕ). steps n (b .before .args .p)) (sym (add-one (b .loop .i))))
 
 returns : tie.Need-returns Inv-loop μ-loop
 returns c =
@@ -43,4 +38,6 @@ returns c =
     rw e at (b .loop .inv .1)
 
 pub cordic-spec : {M : Type 1} → statement M
-cordic-spec = tie.close (tie.spec Inv-loop μ-loop loop-holds step-requires add-i loop-less loop-again returns)
+cordic-spec =
+    tie.close
+    (tie.spec Inv-loop μ-loop loop-holds step-requires (λ c. omega arith) (λ c. omega arith) loop-again returns)

@@ -16,38 +16,14 @@ abbrev μ-loop : tie.MeasureT-loop
 loop-holds : tie.Need-loop-holds Inv-loop μ-loop
 loop-holds c = search starts-begin
 
-mul-w : tie.Need-mul-w Inv-loop μ-loop
-mul-w c = search needs
-
-array-copy-out-w : tie.Need-array-copy-out-w Inv-loop μ-loop
-array-copy-out-w c = search needs
-
-start-requires : tie.Need-start-requires Inv-loop μ-loop
-start-requires c κs =
+sums-requires : tie.Need-sums-requires Inv-loop μ-loop
+sums-requires c κs =
     let b = c .before .before .before in
     b .before .pre (b .loop .c) (omega arith)
 
-mul-x : tie.Need-mul-x Inv-loop μ-loop
-mul-x c = search needs
-
-element-set-from-x : tie.Need-element-set-from-x Inv-loop μ-loop
-element-set-from-x c = search needs
-
-mul-y : tie.Need-mul-y Inv-loop μ-loop
-mul-y c = search needs
-
-element-set-from-y : tie.Need-element-set-from-y Inv-loop μ-loop
-element-set-from-y c = search needs
-
-add-c : tie.Need-add-c Inv-loop μ-loop
-add-c c = search needs
-
-loop-less : tie.Need-loop-less Inv-loop μ-loop
-loop-less c = search needs
-
 loop-again : tie.Need-loop-again Inv-loop μ-loop
 loop-again c =
-    let s = c .before .before .start in
+    let s = c .before .before .sums in
     let b = c .before .before .before .before .before .before in
     starts-again (b .before .args .t1) (b .loop .c) (b .loop .p) (s .result) (b .before .pre) (b .loop .inv) (omega arith) (s .ensures)
 
@@ -57,18 +33,6 @@ returns c = let b = c .before in let all : b .loop .c ≡ 6 = omega arith in rw 
 pub starts-spec : {M : Type 1} → statement M
 starts-spec =
     tie.close
-    (tie.spec
-    Inv-loop
-    μ-loop
-    loop-holds
-    mul-w
-    array-copy-out-w
-    start-requires
-    mul-x
-    element-set-from-x
-    mul-y
-    element-set-from-y
-    add-c
-    loop-less
-    loop-again
+    (tie.spec Inv-loop μ-loop loop-holds (λ c. search needs) (λ c. search needs) sums-requires (λ c. search needs)
+    (λ c. search needs) (λ c. search needs) (λ c. search needs) (λ c. search needs) (λ c. search needs) loop-again
     returns)

@@ -22,18 +22,6 @@ by-test : (i : ℕ) (p : Point) {t : Bool} → leZ (pos 0) (p .y) ≡ t → step
 unfolding stepAt
 by-test i p e = rw e
 
-cast-sx : tie.Need-cast-sx
-cast-sx c = search needs
-
-shr-sx : tie.Need-shr-sx
-shr-sx c = search needs
-
-cast-sy : tie.Need-cast-sy
-cast-sy c = search needs
-
-shr-sy : tie.Need-shr-sy
-shr-sy c = search needs
-
 -- the bits of a number shifted right
 abbrev shiftBits : ℤ → ℕ → ℕ
 shiftBits b i = ofZ w32 (shrZ (toZ w32 (ofZ w32 b)) (2 ^ i))
@@ -89,4 +77,7 @@ returns-2 c =
     rw (plus-is, minus-is) (sym (by-test (s .args .i) (s .args .p) (tested (s .args .p) hy (c .if1 .left))))
 
 pub step-spec : {M : Type 1} → statement M
-step-spec = tie.close (tie.spec cast-sx shr-sx cast-sy shr-sy add-t10 sub-t11 sub-t12 add-t13 returns returns-2)
+step-spec =
+    tie.close
+    (tie.spec (λ c. search needs) (λ c. search needs) (λ c. search needs) (λ c. search needs) add-t10 sub-t11
+    sub-t12 add-t13 returns returns-2)

@@ -1,9 +1,9 @@
 -- `channels_reset` meets its contract. The invariant of its loop: the channels below c are made.
 use Prim.Native.Nat.{ℕ, _-_}
-use Rattle.relay.proofs.Filled.{Filled, filled-none, filled-more, filled-all, length-mapped}
-use Rattle.relay.specs.Bits.{bitOf}
+use Rattle.lists.proofs.Filled.{Filled, filled-none, filled-more, filled-all, length-mapped}
+use Rattle.frames.specs.Bits.{bitOf}
 use Rattle.relay.specs.Channel.{noChannel, clearedOf}
-use Rattle.relay.specs.Inside.{resetsOf}
+use Rattle.relay.specs.Internal.{resetsOf}
 use Rattle.relay.specs.Relay.{resetChannel}
 use Rattle.relay.specs.declared.Channel.{Channel}
 use borrow.Author.Needs.{needs}
@@ -14,7 +14,8 @@ use mathlib.Core.Path.{_≡_}
 use Rattle.relay.proofs.steps.channels_reset.Statement.{statement}
 use Rattle.relay.proofs.steps.channels_reset.Tie as tie
 
-reset : (mask c : ℕ) (old : List Channel) (b : Bool) (ch : Channel) → b ≡ bitOf mask c → ch ≡ cond b (clearedOf (getD old c noChannel)) (getD old c noChannel) → ch ≡ resetChannel mask old c
+reset : (mask c : ℕ) (old : List Channel) (b : Bool) (ch : Channel) → b ≡ bitOf mask c
+    → ch ≡ cond b (clearedOf (getD old c noChannel)) (getD old c noChannel) → ch ≡ resetChannel mask old c
 unfolding resetChannel
 reset mask c old b ch e q = rw (q, e)
 
@@ -27,30 +28,6 @@ abbrev μ-loop : tie.MeasureT-loop
 loop-holds : tie.Need-loop-holds Inv-loop μ-loop
 loop-holds c = search (filled-none, length-mapped)
 
-mul-after-reset : tie.Need-mul-after-reset Inv-loop μ-loop
-mul-after-reset c = search needs
-
-array-copy-out-after-reset : tie.Need-array-copy-out-after-reset Inv-loop μ-loop
-array-copy-out-after-reset c = search needs
-
-bit-requires : tie.Need-bit-requires Inv-loop μ-loop
-bit-requires c κs = search needs
-
-after-reset-requires : tie.Need-after-reset-requires Inv-loop μ-loop
-after-reset-requires c κs = search needs
-
-mul-channels : tie.Need-mul-channels Inv-loop μ-loop
-mul-channels c = search needs
-
-array-set-from-channels : tie.Need-array-set-from-channels Inv-loop μ-loop
-array-set-from-channels c = search needs
-
-add-c : tie.Need-add-c Inv-loop μ-loop
-add-c c = search needs
-
-loop-less : tie.Need-loop-less Inv-loop μ-loop
-loop-less c = search needs
-
 loop-again : tie.Need-loop-again Inv-loop μ-loop
 loop-again c = search (filled-more, reset)
 
@@ -61,17 +38,6 @@ returns c = search filled-all
 pub channels-reset-spec : {M : Type 1} → statement M
 channels-reset-spec =
     tie.close
-    (tie.spec
-    Inv-loop
-    μ-loop
-    loop-holds
-    mul-after-reset
-    array-copy-out-after-reset
-    bit-requires
-    after-reset-requires
-    mul-channels
-    array-set-from-channels
-    add-c
-    loop-less
-    loop-again
-    returns)
+    (tie.spec Inv-loop μ-loop loop-holds (λ c. search needs) (λ c. search needs) (λ c κs. search needs)
+    (λ c κs. search needs) (λ c. search needs) (λ c. search needs) (λ c. search needs) (λ c. search needs)
+    loop-again returns)

@@ -33,9 +33,6 @@ returns c = search kept
 returns-2 : tie.Need-returns-2
 returns-2 c = search ended
 
-add-result : tie.Need-add-result
-add-result c = search needs
-
 returns-3 : tie.Need-returns-3
 returns-3 c = search (counting, grown)
 
@@ -43,4 +40,4 @@ returns-4 : tie.Need-returns-4
 returns-4 c = search (counting, full)
 
 pub run-after-spec : {M : Type 1} → statement M
-run-after-spec = tie.close (tie.spec returns returns-2 add-result returns-3 returns-4)
+run-after-spec = tie.close (tie.spec returns returns-2 (λ c. search needs) returns-3 returns-4)

@@ -1,0 +1,4 @@
+pub mod Codes
+pub mod Bits
+pub mod Cells
+pub mod Internal

@@ -1,0 +1,5 @@
+pub mod Each
+pub mod Filled
+pub mod Lists
+pub mod Put
+pub mod Tested

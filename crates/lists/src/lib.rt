@@ -1,0 +1,1 @@
+// Lists: definitions stand in specs/ and their laws in proofs/; there is no code here.
