@@ -1,7 +1,7 @@
 #!/usr/bin/env python3
-"""Computes every figure of LIMITS.md from the rules of document 01, and fails where the page says something else.
+"""Computes every figure of LIMITS.md from the rules of document 01 and of Paper 8, and fails where the page says something else.
 
-Standard library only, under a minute on one core of its own. `say` prints a sentence made of computed figures and looks it up, word for word,
+Standard library only, about a minute on one core of its own. `say` prints a sentence made of computed figures and looks it up, word for word,
 in the page's section of the same number; `cite` names what was read by hand in a document. A number of the page that neither has
 met is a fault too. Nothing here is a proof: a sweep covers the phases, slots, signs and steps that its lines name, and no more.
 """
@@ -18,6 +18,7 @@ FULL = 16 * 512                        # a code of 512 in sixteenths
 OVER, LOSS, SETTLED = 4, 16, 72        # document 01: the runs, the age from which frames count
 SIX = (0.5, 1, 2, 3, 4, 5)             # time constants of documents 000 and 003, in cycles
 TAUS = (0.5, 0.65, 1, 2, 3, 4, 5)      # and the one where the overreach is greatest
+LEVELS = (10, 15, 20, 30, 50, 100)     # restraint levels r of section 8
 getcontext().prec = 40
 
 
@@ -73,17 +74,37 @@ def span(vs, digits=0, sign='', word=' to '):
 
 # ---- the relay
 
-def amplitude(w):
-    """Document 01: m of a window, w[k] being the sample in slot k."""
-    s0, s1, s2, s3, s4, s5, s6, s7 = w
-    x = abs(16384 * (s0 - s4) + 11585 * (s1 - s3 - s5 + s7))
-    y = abs(16384 * (s2 - s6) + 11585 * (s1 + s3 - s5 - s7))
-    for i in (0, 1, 2, 3, 4, 5, 6, 7, 8, 9, 10, 11, 12, 13, 14, 15):
+COSINE = (16384, 11585, 0, -11585, -16384, -11585, 0, 11585)
+SINE = (0, 11585, 16384, 11585, 0, -11585, -16384, -11585)
+
+
+def cordic(re, im):
+    """Document 01: m of the two sums; step 0 has y >= 0 and shifts nothing."""
+    x, y = abs(re), abs(im)
+    x, y = x + y, y - x
+    for i in (1, 2, 3, 4, 5, 6, 7, 8, 9, 10, 11, 12, 13, 14, 15):
         if y >= 0:
             x, y = x + (y >> i), y - (x >> i)
         else:
             x, y = x - (y >> i), y + (x >> i)
     return x * 39797 >> 28
+
+
+def amplitude(w):
+    """Document 01: m of a window, w[k] being the sample in slot k."""
+    s0, s1, s2, s3, s4, s5, s6, s7 = w
+    return cordic(16384 * (s0 - s4) + 11585 * (s1 - s3 - s5 + s7), 16384 * (s2 - s6) + 11585 * (s1 + s3 - s5 - s7))
+
+
+def second(w):
+    """Paper 8: m of order 2."""
+    s0, s1, s2, s3, s4, s5, s6, s7 = w
+    return cordic(16384 * (s0 - s2 + s4 - s6), 16384 * (s1 - s3 + s5 - s7))
+
+
+def estimate(w, p):
+    """Paper 8: m of order p."""
+    return cordic(*(sum(s * table[p * k % 8] for k, s in enumerate(w)) for table in (COSINE, SINE)))
 
 
 def exact(w):
@@ -93,8 +114,8 @@ def exact(w):
     return (16 * (a * a + c * c) + 8 * (b * b + d * d) + 16 * (a * b + c * d) * Decimal(2).sqrt()).sqrt()
 
 
-def channel(calls, pickup, drop):
-    """One current channel by document 01. A call is (sample, enabled) or 'reset'.
+def channel(calls, pickup, drop, r=0):
+    """One current channel by document 01 and Paper 8. A call is (sample, enabled) or 'reset'.
     For each frame: m, over latch, loss latch, output bit, and the whole state that the next call finds."""
     w, age, slot, over, loss, lo, ll, out = [0] * 8, 0, 0, 0, 0, False, False, []
     for c in calls:
@@ -111,7 +132,7 @@ def channel(calls, pickup, drop):
             over = loss = 0
         else:
             loss = min(LOSS, loss + 1) if m < drop else 0
-            over = min(OVER, over + 1) if m >= pickup else 0
+            over = min(OVER, over + 1) if m >= pickup and (r == 0 or 100 * second(w) < r * m) else 0
         ll, lo = ll or loss == LOSS, lo or over == OVER
         slot = (slot + 1) % 8
         out.append((m, lo, ll, (lo or ll) and on, (tuple(w), age, slot, over, loss, lo, ll)))
@@ -203,7 +224,7 @@ def opening():
     print('  bench figures 0, 0, 1603, 400, 399, frames 75, none, 87:', got, over[0], never, loss[0])
     assert (got, over[0], never, loss[0]) == ([0, 0, 1603, 400, 399], 75, [], 87)
     say('full scale (512 codes) is %s. A frame is 1/480 s = %s ms, a cycle 8 frames' % (num(FULL), num(1000 / 480, 3)))
-    cite("document 01's", 'Documents 000 to 004', '"(02)"', 'document 02')
+    cite("document 01's and Paper 8's (document 02)", 'r (section 8) is 0 unless named', 'Documents 000 to 004', '"(02)"', 'document 02')
 
 
 def bandpass(f):
@@ -229,13 +250,13 @@ def harmonics():
     row('m, % of its amplitude (400 codes, every phase)', *cells)
     ms = [amplitude(w) / 64 - 100 for a in (360, 440) for w in steady(a)]
     say('A 7th of 10 %% makes of 400 codes a sine of 360 to 440: m moves by %s %% (both ends, every phase)' % span(ms, 1, '+'))
-    cite('With N samples "(N/2) − 1 harmonics can be computed" (document 003, 2.1): three here', '(document 000, 2.1.1) ends below the 7th',
-         'Document 001, 1.5, calls 8 samples', '(document 002, 3.3.1, took 12)')
-    row('Gain by closed formula (1/√2 at the cut-off), %', '60 Hz', '420 Hz', '540 Hz')
+    cite('With N samples "(N/2) − 1 harmonics can be computed" (document 003, 2.1): three here, by orders 1 to 3',
+         '(document 000, 2.1.1) ends below the 7th', 'Document 001, 1.5, calls 8 samples', '(document 002, 3.3.1, took 12)')
+    row('Gain by closed formula (1/√2 at the cut-off), %', '60 Hz', '120 Hz', '420 Hz', '540 Hz')
     for name, g in (('document 001, equation (1.3): band-pass 50 to 70 Hz', bandpass),
                     ('document 000, 5.2: Butterworth, order 3, 180 Hz', lambda f: lowpass(f, 180, 3)),
                     ('document 003, 4: Butterworth, order 2, 540 Hz (for 64 samples and more)', lambda f: lowpass(f, 540, 2))):
-        row(name, *(num(100 * g(f), 1) for f in (60, 420, 540)))
+        row(name, *(num(100 * g(f), 1) for f in (60, 120, 420, 540)))
 
 
 def flicker():
@@ -358,6 +379,17 @@ def offset():
     say('m stayed at %s %% or below (24 angles, 4 instants)' % num(top / 40 - 100, 1))
 
 
+def ratio(w):
+    """m2 in % of m."""
+    return 100 * second(w) / amplitude(w)
+
+
+def leak(f):
+    """The greatest m2 in % of m of a sine of f Hz, 500 codes, 24 phases, 480 frames of full windows, the first of them in slot 0."""
+    waves = [sine(500, p, 488, f) for p in phases(24)]
+    return max(ratio([s[n - (n - k) % 8] for k in range(8)]) for s in waves for n in range(8, 488))
+
+
 def frequency():
     head(4)
     kernel = lambda f: abs(math.sin(math.pi * f / 60) / (8 * math.sin(math.pi * f / 480)))
@@ -376,6 +408,9 @@ def frequency():
     row('Greatest m', *(num(v, 2) for v in highs))
     row('Highest pickup tripped in 1 s in all of them', *(num(v, 2) for v in helds))
     cite('Document 004, 2.6.5,', '56.5 and 66 Hz are from its 5.3.5')
+    tops = list(map(leak, hertz))
+    row('Greatest second harmonic m2, % of m (from slot 0)', *(num(v, 2) for v in tops))
+    row('Least r that feeds every frame (section 8)', *(str(math.floor(v) + 1) for v in tops))
 
 
 def clipping():
@@ -413,6 +448,10 @@ def clipping():
 # all values of these for which bounds worked out by hand leave room for more; the script only evaluates them.
 HIGH = (-489, 511, 3, -512, 489, -512, -3, 511)
 LOW = (213, -510, 511, -209, -214, 509, -511, 209)
+# The same of order 2, and its greatest m: from all sizes of its two sums, 0 to 2046 each, by a search that is not kept.
+HIGH2 = (42, 138, 0, 0, 0, 0, 0, 0)
+LOW2 = (511, 511, -507, -487, 511, 511, -507, -486)
+MOST2 = (511, 511, -512, -512, 511, 511, -512, -512)
 
 
 def rounding():
@@ -420,7 +459,7 @@ def rounding():
     high, low = (exact(w) - amplitude(w) for w in (HIGH, LOW))
     for w, d in ((HIGH, high), (LOW, low)):
         print('  window %s: m %d, Z - m %.12f' % (w, amplitude(w), d))
-    say('Proved (`accurate`): m is within 2 of Z')
+    say('Proved (`accurate`, for orders 1, 2 and 3): m is within 2 of Z')
     say('m ≥ pickup wherever Z ≥ pickup + 2, and only where Z ≥ pickup − 2')
     weight = 4 * 2046 * (1 / math.sqrt(2) - 11585 / 16384)       # the weight 11585 for 16384/√2, B² + D² being at most 2046²
     down, up = weight + 128 / 4096, weight + 5597 / 4096
@@ -434,6 +473,7 @@ def rounding():
         w = [rng.randint(-512, 511) for _ in range(8)]
         turned = [amplitude(w[k:] + w[:k]) for k in range(8)]
         assert max(turned) - min(turned) <= 1 and all(low <= exact(w) - m <= high for m in turned)
+        assert [amplitude(w), second(w), amplitude([w[3 * k % 8] for k in range(8)])] == [estimate(w, p) for p in (1, 2, 3)]
     ds = [amplitude(w) - 16 * a / 7 for a in range(35, 3578, 23) for w in steady(a / 7)]
     say('for steady sines of 5 to 511 codes (steps of 23/7, every phase) m − 16A was %s' % span(ds, 1, '+'))
     say("(closed bound for the samples' part: %s)" % num(4 / math.sin(math.pi / 8), 2))
@@ -447,6 +487,11 @@ def rounding():
     most = max(map(amplitude, itertools.product((-1, 0, 1), repeat=8)))
     say('One code of noise reads %s, windows of −1, 0, 1 (all of them) up to %d: a drop of %d or less may miss a dead channel'
         % (' or '.join(map(str, sorted(ones))), most, most))
+    low, high = (4 * Decimal((w[0] - w[2] + w[4] - w[6]) ** 2 + (w[1] - w[3] + w[5] - w[7]) ** 2).sqrt() - second(w) for w in (LOW2, HIGH2))
+    print('  order 2: Z - m %.12f at %s, %.12f at %s; m %d at %s' % (low, LOW2, high, HIGH2, second(MOST2), MOST2))
+    say('Order 3 is order 1 of other slots (3k mod 8), with the same extremes')
+    say('Order 2 has Z − m from %s to %s and m up to %s (all 2047² sizes of its two sums, by a search that is not kept; the windows found are in '
+        '`limits.py`)' % (num(low, 5), num(high, 5, '+'), num(second(MOST2))))
 
 
 def onset():
@@ -486,9 +531,174 @@ def onset():
         % (SETTLED - 1, num(SETTLED / 480, 2), over, num(over / 0.48), loss, num(loss / 0.48)))
 
 
-def switches():
+def pulses(peak, width, p, a=0.0, q=0.0):
+    """A cycle of pulses of one sign, `width` degrees of it, and of a sine of a codes, q ahead of them."""
+    foot = math.cos(math.radians(width / 2))
+    return [sample(peak * max(0.0, math.cos(t) - foot) / (1 - foot) + a * math.cos(t + q)) for t in (TAU * k / 8 + p for k in range(8))]
+
+
+def content(h, width):
+    """The h-th harmonic of such pulses of peak 1."""
+    b = math.radians(width / 2)
+    area = lambda n: 2 * math.sin(n * b) / n if n else 2 * b
+    return ((area(h - 1) + area(h + 1)) / 2 - math.cos(b) * area(h)) / math.pi / (1 - math.cos(b))
+
+
+def saturated(a, alpha, tau, limit, flux, d, sub=8):
+    """Sixty cycles of offset_wave's current behind a current transformer. Its flux counts peaks of the flux that the steady part swings; at ±limit it
+    stays while the current drives it on, and such a sample is 0. In steps of 1/sub of a frame, the first frame d/4 of a frame after the fault."""
+    c, e, fall = math.cos(alpha), 1.0, math.exp(-1 / 8 / sub / tau)
+    old = math.sin(alpha) + c * TAU * tau
+    for j in range(1, 480 * sub):
+        e *= fall
+        angle = TAU * j / 8 / sub + alpha
+        new = math.sin(angle) + c * TAU * tau * e
+        free = flux + new - old
+        flux, old = max(-limit, min(limit, free)), new
+        if (j - d * sub // 4) % sub == 0:
+            yield sample(a * (math.cos(angle) - c * e)) if flux == free else 0
+
+
+def trips(samples, before=(0,) * 8, pickup=800):
+    """Frames until over latches, for r = 0 and then for LEVELS from the greatest down (none is earlier than the one before), as far as it does."""
+    w, last, got, rs = list(before), [math.inf] * OVER, [], (math.inf,) + LEVELS[::-1]
+    for n, s in enumerate(samples):
+        w[n % 8] = s
+        m = amplitude(w)
+        last = last[1:] + [100 * second(w) // m if m >= pickup else math.inf]        # the frame feeds every r above this
+        while len(got) < len(rs) and max(last) < rs[len(got)]:
+            got.append(n + 1)
+        if len(got) == len(rs):
+            break
+    return got
+
+
+def price(name, cases):
+    """A row: the greatest delay against r = 0 for each of LEVELS, and the share of the cases that r = 15 makes more than a cycle late."""
+    delays = [[n - got[0] for n in got[:0:-1]] for got in cases]
+    assert all(len(one) == len(LEVELS) for one in delays)
+    worst = [max(one[k] for one in delays) for k in range(len(LEVELS))]
+    if name:
+        row(name, *map(str, worst), num(100 * sum(one[1] > 8 for one in delays) / len(delays)))
+    return worst
+
+
+def restraint():
     head(8)
-    cite('document 002, 2.3.3 and 2.3.4', 'section 7', 'No inrush restraint (02)', '(document 004, 6.2.2.3)')
+    cite('r of a current is 0 (off) or 1 to 100', '100 m2 < r m, m2 being', 'any other counted frame makes the run 0',
+         'r = 1 blocks most, r = 100 least, r = 0 nothing', 'answer shows m2')
+    cite('document 004, 6.1', 'failed in 9 of 27 tests and took 1 to 4 cycles (6.3.5)', 'Frames from slot 0')
+    below = []
+    for a in (100, 250, 50, 25):
+        for h in (10, 15, 20, 30, 40):
+            got = [ratio([sample(a * (math.cos(TAU * k / 8 + p) + h / 100 * math.cos(TAU * k / 4 + q)) + z / 4) for k in range(8)])
+                   for p in phases(72) for q in phases(24) for z in range(4)]
+            below.append((h - math.floor(min(got)), math.floor(max(got)) + 1 - h))
+    below = [tuple(map(max, zip(*below[k:n]))) for k, n in ((0, 10), (10, 15), (15, 20))]
+    say('h %% of second harmonic, h = 10, 15, 20, 30, 40: at 100 and 250 codes of fundamental every r up to h − %d blocks it and every r from h + %d '
+        "on feeds; at 50 codes it is h − %d and h + %d, at 25 codes h − %d and h + %d (72 × 24 phases, the converter's zero at 0, 1/4, 1/2, 3/4 of a "
+        'code)' % (*below[0], *below[1], *below[2]))
+    widths = (120, 180, 210, 240, 270, 300)
+    say('cos θ − cos(β/2) where that is positive and else 0, peak ±250 codes, 360 instants')
+    both = lambda width: [pulses(peak, width, p) for peak in (250, -250) for p in phases(360)]
+    row('β, degrees', *map(str, widths))
+    row('Second harmonic by closed formula, % of the fundamental', *(num(100 * content(2, b) / content(1, b), 1) for b in widths))
+    row('m2, % of m', *(span(list(map(ratio, both(b))), 1) for b in widths))
+    least = {b: min(map(ratio, both(b))) for b in range(180, 270)}
+    some = (10, 15, 20, 30)
+    ends = [next(b - 1 for b in least if least[b] < r) for r in some]
+    for b in (*widths, *ends):                                   # from the first pulse on: what blocks the steady pulses blocks them
+        for w in both(b):
+            assert len(trips(w * 3, pickup=1)) == 1 + sum(r > ratio(w) for r in LEVELS)
+    say('r = %s, %s, %s, %s block pulses of up to β = %s, %s, %s, %s (in steps of 1 from 180)' % (*some, *ends))
+    say('from the first pulse on (pickup 1, the β named here)')
+    cite('changes neither m nor m2 unless it clips')
+    assert all(f([s + z for s in w]) == f(w) for f in (amplitude, second) for z in (-250, -1, 1, 200) for w in both(240)[:360])
+    got = [ratio(pulses(s * 250, 240, p, s * 250 * content(1, 240))) for p in phases(360) for s in (1, -1)]
+    say('as much load as the pulses have fundamental, in phase, makes β = 240 read %s %%' % span(got, 1))
+    fault = {x: max(ratio(pulses(125, 180, p, 62.5 * x / 10, q)) for p in phases(24) for q in phases(24)) for x in range(20, 61)}
+    say('Beside pulses of β = 180 (62.5 codes of fundamental) a fault in any phase trips from %s, %s, %s times that on with r = 15, 20, 30 '
+        '(2 to 6 in steps of 0.1, 24 × 24 phases)' % tuple(num(max(x for x in fault if fault[x] >= r) / 10 + 0.1, 1) for r in (15, 20, 30)))
+    got = [second([sample(400 * math.cos(TAU * h * k / 8 + p)) for k in range(8)]) / 64 for h in (6, 10, 14) for p in phases(360)]
+    assert num(min(got)) == num(max(got)) == '100'
+    say('Harmonics 6, 10 and 14 read as second')
+    behind = [ratio(s[-8:]) for p in phases(8) for q in phases(8)
+              for s in filtered(lambda t: 250 * (math.cos(TAU * 60 * t + p) + 0.4 * math.cos(TAU * 120 * t + q)), 96)]
+    assert min(behind) > leak(63)
+    say("Behind document 001's band-pass (section 1) a second harmonic of 40 %% reads %s %%, little more than a clean sine of 63 Hz (section 4)"
+        % span(behind, 1))
+
+    # the price
+    say('Trips later than with r = 0, at worst; pickup 800 (50 codes), 8 frames a cycle')
+    row('Later than with r = 0, frames', *('r = %d' % r for r in LEVELS), '% of cases over a cycle late at r = 15')
+    steps = [trips(sine(50 * k, p) * 3, sine(50 * old, q)) for k in (1.1, 1.5, 2, 5) for p in phases(72)
+             for old, n in ((0, 1), (0.5, 24), (0.9, 24)) for q in phases(n)]
+    price('Sine from 0, 50, 90 % of pickup to 1.1, 1.5, 2, 5 × (72 × 24 phases)', steps)
+    wave = lambda a, taus: [trips(offset_wave(a, alpha, tau, d / 4, 480)) for tau in taus for alpha in phases(24) for d in range(4)]
+    price('250 codes with the offset of section 3, not clipped', wave(250, TAUS))
+    for a, tau in ((500, 5), (1000, 1), (1000, 5), (2500, 5)):
+        price('%s codes, clipped, τ = %d' % (num(a), tau), wave(a, (tau,)))
+    sizes, fluxes = (1, 2, 4, 8, 16), (0, 0.5, -0.5, 0.8, -0.8)
+    for tau in (1, 3, 5):
+        held = price('250 codes, current transformer saturates, τ = %d' % tau, [trips(saturated(250, alpha, tau, size, size * f, d))
+                     for size in sizes for f in fluxes for alpha in phases(24) for d in (1, 2, 3, 4)])
+    once = list(saturated(250, math.pi / 6, 5, 2, 0, 1))
+    assert trips(once) == [next(k - 79 for k, got in enumerate(channel(enabled([0] * 80 + once), 800, 1, r)) if got[1]) for r in (0,) + LEVELS[::-1]]
+    say('Offsets: 24 angles, 4 instants')
+    say('The clean sine trips in frame %d at the latest, the window full (section 7)' % max(got[-1] for got in steps))
+    cite('and 0 while it would leave')
+    say('L = 1, 2, 4, 8, 16 peaks of the flux that the steady part swings; flux at the fault 0, ±50, ±80 % of L')
+    say('at r = 15 up to %d frames (%s ms)' % (held[1], num(held[1] / 0.48)))
+    say('All of these trip within 60 cycles')
+    room = [price('', [trips(saturated(250, alpha, tau, 8, 8 - x, d)) for tau in (1, 3, 5) for alpha in phases(72) for d in (1, 2, 3, 4)])
+            for x in (6.5, 5.5)]
+    assert room[1][1] == held[1]
+    say('With 6.5 peaks of room between flux and L at the fault the delay is %d frames at most, with 5.5 at r = 15 again %d (L = 8, 72 angles)'
+        % (max(room[0]), room[1][1]))
+    small = [trips(saturated(100, alpha, tau, 0.4, 0, d, 16)) for tau in (1, 3, 5) for alpha in phases(24) for d in (1, 2, 3, 4)]
+    off = [sum(0 < len(got) <= n for got in small) for n in range(len(LEVELS), 0, -1)]
+    assert off[:4] == off[:1] * 4 and off[5] == 0
+    say('with L = 0.4, 100 codes and no flux at the fault r = 0 trips in %d of %d cases; of these r = 10 to 30 leaves %d without a trip in 60 '
+        'cycles, r = 50 %d, r = 100 none' % (sum(len(got) > 0 for got in small), len(small), off[0], off[4]))
+    over = [w for k in (1, 1.5, 2, 3, 5) for p in phases(720) for w in [sine(512 * k, p)]]
+    say('Clipped on both sides alike m2 is at most %s %% of m (third harmonic up to %s %%)'
+        % (num(max(map(ratio, over)), 1), num(max(100 * estimate(w, 3) / amplitude(w) for w in over), 1)))
+    aside = [max(ratio([sample(512 * k * math.cos(TAU * j / 8 + p) + z) for j in range(8)]) for k in (1, 1.5, 2, 3, 5) for p in phases(720))
+             for z in (50, 100)]
+    say('a standing offset of 50 or 100 codes makes it up to %s or %s %% for good (1, 1.5, 2, 3, 5 × 512 codes, 720 phases)'
+        % tuple(num(v, 1) for v in aside))
+    cite('(255.75 codes, section 5)')
+
+    # small amplitudes, bad samples
+    exactly = max(second([sample(a * math.cos(TAU * k / 8 + p) + z / 16) for k in range(8)])
+                  for a in (1, 2, 5, 10, 25, 50, 100, 250, 500) for p in phases(72) for z in range(16))
+    noise = max(map(second, itertools.product((-1, 0, 1), repeat=8)))
+    say('a clean 60 Hz sine reads m2 up to %d (1 to 500 codes, 72 phases, zero in sixteenths of a code), noise of one code in each sample up to %d '
+        '(all windows): r = 1 may block them up to m %s and %s, r = 15 up to %d and %d'
+        % (exactly, noise, num(100 * exactly), num(100 * noise), 100 * exactly // 15, 100 * noise // 15))
+    assert all(second(w) >= amplitude(w) for s in range(-1023, 1024) for k in range(8) for w in [[s if j == k else 0 for j in range(8)]])
+    say('Of one bad sample in a dead channel (section 2) m2 is at least m, whatever its size and slot: every r of 1 to 100 blocks it')
+
+    def spoilt(d, gap):
+        """Over, for each phase and sign, of a sine of 100 codes at r = 15 with one sample in `gap` d codes off; the relay repeats itself."""
+        for p in phases(24):
+            for s in (d, -d):
+                wave = [v + s * (k % gap == 0) for k, v in enumerate(sine(100, p, 250))]
+                got = channel(enabled(wave), 800, 1, 15)
+                assert got[-1][1] or got[150][4] == got[150 + 8 * gap][4]
+                yield got[-1][1]
+    bad = next(d for d in range(60, 100) if not any(spoilt(d, 11)))
+    assert all(spoilt(bad, 12))
+    say('In a fault of 100 codes one sample in 11 that is %d codes off keeps over off for good at r = 15 (24 phases, both signs); one in 12 does not'
+        % bad)
+    cite('A second input with r = 0', '0 where no transformer')
+    say('(%d at 63 Hz, section 4)' % (math.floor(leak(63)) + 1))
+    say('by %d point from 100 codes up, by %d at 50' % (below[0][0], below[1][0]))
+
+
+def switches():
+    head(9)
+    cite('document 002, 2.3.3 and 2.3.4', 'section 7')
     say('No inverse-time curve: always %d frames' % OVER)
     assert all(amplitude([s] * 8) == 0 for s in range(-512, 512))
     say('any constant code reads 0')
@@ -514,7 +724,7 @@ def switches():
 
 
 if __name__ == '__main__':
-    for part in (opening, harmonics, flicker, offset, frequency, clipping, rounding, onset, switches):
+    for part in (opening, harmonics, flicker, offset, frequency, clipping, rounding, onset, restraint, switches):
         part()
     for n, text in enumerate(LEFT):
         FAULTS += ['section %d has a number that is not computed here: %s' % (n, part) for part in text.split(' # ') if re.search(r'\d', part)]

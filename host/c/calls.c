@@ -1,6 +1,6 @@
-/* Uses the archive as a firmware team would: a relay is made, fed and reset, a recording is written, read back,
- * searched and reported. The values are document 01's bench figures; each refusal occurs, with all that it answers.
- * It says `ok`, or what failed. */
+/* Uses the archive as a firmware team would: a relay is made, fed and reset, a harmonic is measured and restrains, a
+ * recording is written, read back, searched and reported. The values are document 01's bench figures; each refusal
+ * occurs, with all that it answers. It says `ok`, or what failed. */
 #include "export.h"
 
 #include <stdio.h>
@@ -9,13 +9,16 @@
 _Static_assert(sizeof(bool) == 1 && sizeof(p6k_channel) == 20, "layout");
 _Static_assert(offsetof(p6k_channel, loss_run) == 16 && offsetof(p6k_channel, over_run) == 17, "layout");
 _Static_assert(offsetof(p6k_channel, loss_latch) == 18 && offsetof(p6k_channel, over_latch) == 19, "layout");
-_Static_assert(sizeof(p6k_settings) == 18 && offsetof(p6k_settings, pickup) == 12 && sizeof(p6k_codes) == 12, "layout");
-_Static_assert(sizeof(p6k_relay) == 140 && offsetof(p6k_relay, age) == 120, "layout");
+_Static_assert(sizeof(p6k_settings) == 22 && offsetof(p6k_settings, pickup) == 12, "layout");
+_Static_assert(offsetof(p6k_settings, restraint) == 18 && sizeof(p6k_codes) == 12, "layout");
+_Static_assert(sizeof(p6k_relay) == 144 && offsetof(p6k_relay, age) == 120, "layout");
 _Static_assert(offsetof(p6k_relay, slot) == 121 && offsetof(p6k_relay, settings) == 122, "layout");
-_Static_assert(sizeof(p6k_fresh_answer) == 142 && offsetof(p6k_fresh_answer, refusal) == 140, "layout");
-_Static_assert(sizeof(p6k_reset_answer) == 142 && offsetof(p6k_reset_answer, refusal) == 140, "layout");
-_Static_assert(sizeof(p6k_frame_answer) == 156 && offsetof(p6k_frame_answer, refusal) == 140, "layout");
-_Static_assert(offsetof(p6k_frame_answer, amplitudes) == 142 && offsetof(p6k_frame_answer, output) == 154, "layout");
+_Static_assert(sizeof(p6k_fresh_answer) == 146 && offsetof(p6k_fresh_answer, refusal) == 144, "layout");
+_Static_assert(sizeof(p6k_reset_answer) == 146 && offsetof(p6k_reset_answer, refusal) == 144, "layout");
+_Static_assert(sizeof(p6k_frame_answer) == 160 && offsetof(p6k_frame_answer, refusal) == 144, "layout");
+_Static_assert(offsetof(p6k_frame_answer, amplitudes) == 146 && offsetof(p6k_frame_answer, output) == 158, "layout");
+_Static_assert(sizeof(p6k_samples) == 16 && sizeof(p6k_estimate_answer) == 4, "layout");
+_Static_assert(offsetof(p6k_estimate_answer, amplitude) == 2, "layout");
 _Static_assert(sizeof(p6k_answer) == 16 && offsetof(p6k_answer, count) == 8, "layout");
 _Static_assert(sizeof(p6k_strongest_window) == 16 && offsetof(p6k_strongest_window, sum) == 4, "layout");
 _Static_assert(offsetof(p6k_strongest_window, frame) == 8, "layout");
@@ -26,19 +29,27 @@ _Static_assert(P6K_READ_ROOM == 4096 * P6K_FRAME_CELLS && P6K_WRITE_ROOM == 3 + 
 
 #define CHECK(holds) do { if (!(holds)) { printf("failed: %s, line %d\n", #holds, __LINE__); return 1; } } while (0)
 
-/* The wave of the bench figures, of amplitude 1603, on channel 3; the others are still. */
+/* The wave of the bench figures, of amplitude 1603, on channel 3; the others are still. The second wave has a second
+ * harmonic of amplitude 400 on top: 25 hundredths of 1603 are just more than that. */
 static const int16_t wave[8] = {100, 71, 0, -71, -100, -71, 0, 71};
+static const int16_t harmonic[8] = {125, 71, -25, -71, -75, -71, -25, 71};
 
-static p6k_codes codes_at(unsigned frame)
+static p6k_codes codes_of(const int16_t samples[8], unsigned frame)
 {
     p6k_codes codes = {{512, 512, 512, 512, 512, 512}};
-    codes.codes[3] = (uint16_t)(512 + wave[frame % 8]);
+    codes.codes[3] = (uint16_t)(512 + samples[frame % 8]);
     return codes;
 }
 
+static p6k_codes codes_at(unsigned frame)
+{
+    return codes_of(wave, frame);
+}
+
+/* Without restraint. */
 static p6k_settings settings_of(uint16_t drop, uint16_t pickup)
 {
-    p6k_settings settings;
+    p6k_settings settings = {.restraint = {0, 0, 0}};
     for (int c = 0; c < 6; c++)
         settings.drop[c] = drop;
     for (int c = 0; c < 3; c++)
@@ -46,12 +57,26 @@ static p6k_settings settings_of(uint16_t drop, uint16_t pickup)
     return settings;
 }
 
-/* The first of 100 frames after which channel c shows in the output, 100 if none does. */
-static unsigned first_trip(p6k_settings settings, int c)
+/* The same with a restraint level for channel 3. */
+static p6k_settings restrained(uint16_t drop, uint16_t pickup, uint8_t restraint)
+{
+    p6k_settings settings = settings_of(drop, pickup);
+    settings.restraint[0] = restraint;
+    return settings;
+}
+
+/* Relays are the same in all but padding: nothing but the last byte is. */
+static bool same(p6k_relay a, p6k_relay b)
+{
+    return memcmp(&a, &b, offsetof(p6k_relay, settings) + offsetof(p6k_settings, restraint) + 3) == 0;
+}
+
+/* The first of 100 frames of a wave after which channel c shows in the output, 100 if none does. */
+static unsigned first_trip_of(const int16_t samples[8], p6k_settings settings, int c)
 {
     p6k_relay relay = p6k_fresh(settings).relay;
     for (unsigned n = 0; n < 100; n++) {
-        p6k_frame_answer answer = p6k_frame(relay, codes_at(n), 0x7F);
+        p6k_frame_answer answer = p6k_frame(relay, codes_of(samples, n), 0x7F);
         if (answer.refusal != P6K_ACCEPTED)
             return 200;
         relay = answer.relay;
@@ -59,6 +84,11 @@ static unsigned first_trip(p6k_settings settings, int c)
             return n;
     }
     return 100;
+}
+
+static unsigned first_trip(p6k_settings settings, int c)
+{
+    return first_trip_of(wave, settings, c);
 }
 
 static int relays(void)
@@ -70,7 +100,7 @@ static int relays(void)
     p6k_fresh_answer refused = p6k_fresh(settings_of(0, 3413));
     p6k_relay zero;
     memset(&zero, 0, sizeof zero);
-    CHECK(refused.refusal == P6K_BAD_SETTING && memcmp(&refused.relay, &zero, sizeof zero) == 0);
+    CHECK(refused.refusal == P6K_BAD_SETTING && same(refused.relay, zero));
     CHECK(p6k_frame(zero, codes_at(0), 0x7F).refusal == P6K_UNSOUND_RELAY);
     CHECK(p6k_reset(zero, 0).refusal == P6K_UNSOUND_RELAY);
 
@@ -85,19 +115,55 @@ static int relays(void)
     p6k_codes wrong = codes_at(0);
     wrong.codes[5] = 1024;
     answer = p6k_frame(relay, wrong, 0xFF);
-    CHECK(answer.refusal == P6K_BAD_CODE && answer.output == 0 && memcmp(&answer.relay, &relay, sizeof relay) == 0);
+    CHECK(answer.refusal == P6K_BAD_CODE && answer.output == 0 && same(answer.relay, relay));
     answer = p6k_frame(relay, codes_at(90), 0xFF);
-    CHECK(answer.refusal == P6K_BAD_ENABLE && answer.output == 0 && memcmp(&answer.relay, &relay, sizeof relay) == 0);
+    CHECK(answer.refusal == P6K_BAD_ENABLE && answer.output == 0 && same(answer.relay, relay));
     for (int c = 0; c < 6; c++)
         CHECK(answer.amplitudes[c] == 0);
 
     p6k_reset_answer reset = p6k_reset(relay, 0x48);
-    CHECK(reset.refusal == P6K_BAD_MASK && memcmp(&reset.relay, &relay, sizeof relay) == 0);
+    CHECK(reset.refusal == P6K_BAD_MASK && same(reset.relay, relay));
     reset = p6k_reset(relay, 0x08);
     CHECK(reset.refusal == P6K_ACCEPTED);
     CHECK(!reset.relay.channels[3].over_latch && reset.relay.channels[3].over_run == 0);
     CHECK(reset.relay.channels[2].loss_latch && reset.relay.age == 72);
     CHECK(p6k_frame(reset.relay, codes_at(90), 0x7F).output == 0x37);
+    return 0;
+}
+
+static bool estimated(const int16_t samples[8], uint8_t order, enum p6k_refusal refusal, unsigned amplitude)
+{
+    p6k_samples window;
+    memcpy(window.samples, samples, sizeof window.samples);
+    p6k_estimate_answer answer = p6k_estimate(window, order);
+    return answer.refusal == refusal && answer.amplitude == amplitude;
+}
+
+static int harmonics(void)
+{
+    CHECK(estimated(wave, 1, P6K_ACCEPTED, 1603) && estimated(wave, 2, P6K_ACCEPTED, 0));
+    CHECK(estimated(harmonic, 1, P6K_ACCEPTED, 1603) && estimated(harmonic, 2, P6K_ACCEPTED, 400));
+    const int16_t third[8] = {100, -71, 0, 71, -100, 71, 0, -71};
+    CHECK(estimated(third, 3, P6K_ACCEPTED, 1603) && estimated(third, 2, P6K_ACCEPTED, 0));
+    CHECK(estimated(wave, 0, P6K_BAD_ESTIMATE, 0) && estimated(wave, 4, P6K_BAD_ESTIMATE, 0));
+    const int16_t high[8] = {0, 0, 0, 0, 0, 0, 0, 512}, low[8] = {-513, 0, 0, 0, 0, 0, 0, 0};
+    CHECK(estimated(high, 1, P6K_BAD_ESTIMATE, 0) && estimated(low, 3, P6K_BAD_ESTIMATE, 0));
+
+    CHECK(first_trip_of(harmonic, restrained(1, 1603, 0), 3) == 75);
+    CHECK(first_trip_of(harmonic, restrained(1, 1603, 25), 3) == 75);
+    CHECK(first_trip_of(harmonic, restrained(1, 1603, 24), 3) == 100);
+    CHECK(first_trip_of(wave, restrained(1, 1603, 1), 3) == 75);
+
+    p6k_fresh_answer refused = p6k_fresh(restrained(1, 1603, 101));
+    p6k_relay zero;
+    memset(&zero, 0, sizeof zero);
+    CHECK(refused.refusal == P6K_BAD_RESTRAINT && same(refused.relay, zero));
+    CHECK(p6k_fresh(restrained(1, 10701, 101)).refusal == P6K_BAD_SETTING);
+    p6k_relay relay = p6k_fresh(restrained(1, 1603, 100)).relay;
+    relay.settings.restraint[2] = 101;
+    p6k_frame_answer answer = p6k_frame(relay, codes_at(0), 0x7F);
+    CHECK(answer.refusal == P6K_UNSOUND_RELAY && same(answer.relay, relay));
+    CHECK(p6k_reset(relay, 0).refusal == P6K_UNSOUND_RELAY);
     return 0;
 }
 
@@ -177,7 +243,7 @@ static int reports(void)
 
 int main(void)
 {
-    if (relays() || captures() || reports())
+    if (relays() || harmonics() || captures() || reports())
         return 1;
     puts("c/calls.c: ok");
     return 0;

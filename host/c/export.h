@@ -11,7 +11,8 @@
  *  - a bool is 0 or 1: a relay that was read from elsewhere, byte by byte, has to be looked at first;
  *  - the program is compiled for x86-64 with the System V calling convention, as the archive is.
  * The functions keep nothing between calls, allocate nothing and may be called from several threads at once. Of the C
- * library they need memcpy alone.
+ * library they need memcpy alone. What an answer's padding holds is not promised: p6k_settings ends in a byte of it, so
+ * relays are compared field by field.
  *
  * This file is written by hand. c/calls.c checks sizes, places of fields and the numbers, c/stack.c the stack, and
  * the tests each function's answers. */
@@ -26,7 +27,7 @@
 extern "C" {
 #endif
 
-/* The refusal of an answer: the numbers of document 01's table. */
+/* The refusal of an answer: the numbers of document 01's table, and document 02's. */
 enum p6k_refusal {
     P6K_ACCEPTED = 0,
     P6K_BAD_SETTING = 1,     /* a setting outside 1 to 10,700 */
@@ -41,7 +42,9 @@ enum p6k_refusal {
     P6K_BYTES_AFTER = 10,    /* bytes after the last frame */
     P6K_DOES_NOT_FIT = 11,   /* answer does not fit */
     P6K_WRONG_SHAPE = 12,    /* cells no multiple of seven, or channel above 5 */
-    P6K_FEW_FRAMES = 13      /* fewer than eight frames */
+    P6K_FEW_FRAMES = 13,     /* fewer than eight frames */
+    P6K_BAD_ESTIMATE = 19,   /* an order outside 1 to 3, or a window sample outside -512 to 511 */
+    P6K_BAD_RESTRAINT = 20   /* a restraint level above 100 */
 };
 
 #define P6K_FRAME_CELLS 7      /* the cells of a frame: six codes, then the enable byte */
@@ -55,6 +58,7 @@ enum p6k_refusal {
 #define P6K_FRESH_STACK 512
 #define P6K_FRAME_STACK 1536
 #define P6K_RESET_STACK 1024
+#define P6K_ESTIMATE_STACK 512
 #define P6K_READ_STACK 512
 #define P6K_WRITE_STACK 256
 #define P6K_EXCERPT_STACK 256
@@ -70,10 +74,13 @@ typedef struct {
     bool over_latch;
 } p6k_channel;
 
-/* Levels in sixteenths of a code, 1 to 10,700: a drop for each channel, a pickup for each current. */
+/* Levels in sixteenths of a code, 1 to 10,700: a drop for each channel, a pickup for each current. And a restraint
+ * level for each current, in hundredths: a frame feeds the over run only if the second harmonic's amplitude is less
+ * than so many hundredths of the fundamental's. */
 typedef struct {
     uint16_t drop[6];
     uint16_t pickup[3];
+    uint8_t restraint[3]; /* 0 off, or 1 to 100 */
 } p6k_settings;
 
 /* The relay goes in and comes back by value; the caller keeps it. */
@@ -88,6 +95,11 @@ typedef struct {
 typedef struct {
     uint16_t codes[6];
 } p6k_codes;
+
+/* Eight samples, -512 to 511, by slot. */
+typedef struct {
+    int16_t samples[8];
+} p6k_samples;
 
 typedef struct {
     p6k_relay relay;
@@ -105,6 +117,11 @@ typedef struct {
     p6k_relay relay;
     uint8_t refusal;
 } p6k_reset_answer;
+
+typedef struct {
+    uint8_t refusal;
+    uint16_t amplitude; /* in sixteenths of a code */
+} p6k_estimate_answer;
 
 /* count: frames for p6k_read, bytes for p6k_write. */
 typedef struct {
@@ -124,7 +141,7 @@ typedef struct {
     size_t length;
 } p6k_part;
 
-/* A fresh relay. Checks 1; refused: the all-zero relay. */
+/* A fresh relay. Checks 1, 20; refused: the all-zero relay. */
 p6k_fresh_answer p6k_fresh(p6k_settings settings);
 
 /* One frame. enable: bits 0 to 5 enable channels, bit 6 the device. Checks 2, 3, 4; refused: the relay as given,
@@ -133,6 +150,10 @@ p6k_frame_answer p6k_frame(p6k_relay relay, p6k_codes codes, uint8_t enable);
 
 /* Clears runs and latches of the channels that mask's bits 0 to 5 name. Checks 2, 5; refused: the relay as given. */
 p6k_reset_answer p6k_reset(p6k_relay relay, uint8_t mask);
+
+/* The amplitude of one window for an order: 1 for the fundamental, which a frame answers, 2 or 3 for that harmonic.
+ * Checks 19; refused: amplitude 0. */
+p6k_estimate_answer p6k_estimate(p6k_samples window, uint8_t order);
 
 /* Reads a capture into the front of the cells. Checks 6 to 10 byte by byte, first fault first, then 11; refused:
  * count 0, the cells as lent. */

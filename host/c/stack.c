@@ -33,7 +33,8 @@ static size_t depth(void (*function)(void), uint8_t paint)
 static p6k_settings settings;
 static p6k_relay relay;
 static p6k_codes codes;
-static uint8_t enable, mask;
+static p6k_samples samples;
+static uint8_t enable, mask, order;
 static uint16_t cells[P6K_READ_ROOM];
 static uint8_t bytes[P6K_WRITE_ROOM + 1], text[P6K_REPORT_ROOM];
 static size_t cells_length, bytes_length, text_length, first, count, channel;
@@ -41,6 +42,7 @@ static size_t cells_length, bytes_length, text_length, first, count, channel;
 static p6k_fresh_answer made;
 static p6k_frame_answer framed;
 static p6k_reset_answer cleared;
+static p6k_estimate_answer estimated;
 static p6k_answer taken, written;
 static p6k_part part;
 static p6k_strongest_window window;
@@ -49,6 +51,7 @@ static size_t reported;
 static void make(void) { made = p6k_fresh(settings); }
 static void frame(void) { framed = p6k_frame(relay, codes, enable); }
 static void reset(void) { cleared = p6k_reset(relay, mask); }
+static void estimate(void) { estimated = p6k_estimate(samples, order); }
 static void read_cells(void) { taken = p6k_read(bytes, bytes_length, cells, cells_length); }
 static void write_bytes(void) { written = p6k_write(cells, cells_length, bytes, bytes_length); }
 static void excerpt(void) { part = p6k_excerpt(cells, cells_length, first, count); }
@@ -63,7 +66,7 @@ static void known(void)
         room[k] = 1;
 }
 
-enum { FRESH, FRAME, RESET, READ, WRITE, EXCERPT, STRONGEST, REPORT, KNOWN, CALLS };
+enum { FRESH, FRAME, RESET, ESTIMATE, READ, WRITE, EXCERPT, STRONGEST, REPORT, KNOWN, CALLS };
 static const struct {
     const char *name;
     void (*call)(void);
@@ -72,6 +75,7 @@ static const struct {
     {"fresh", make, P6K_FRESH_STACK},
     {"frame", frame, P6K_FRAME_STACK},
     {"reset", reset, P6K_RESET_STACK},
+    {"estimate", estimate, P6K_ESTIMATE_STACK},
     {"read", read_cells, P6K_READ_STACK},
     {"write", write_bytes, P6K_WRITE_STACK},
     {"excerpt", excerpt, P6K_EXCERPT_STACK},
@@ -80,7 +84,7 @@ static const struct {
     {"known", known, 10256},
 };
 static size_t deepest[CALLS];
-static unsigned refusals[P6K_FEW_FRAMES + 1];
+static unsigned refusals[P6K_BAD_RESTRAINT + 1];
 
 /* Two paints, since a byte that was written may be the paint of one. The call goes first on the program's own stack,
  * for a dynamic linker's look-up. */
@@ -103,13 +107,16 @@ static void frame_and_reset(void)
     refusals[cleared.refusal]++;
 }
 
-/* Relays that are fresh, settled, tripped and not sound, and what refuses a frame or a reset. */
-static void relays(void)
+/* Relays without restraint and with it that are fresh, settled, tripped and not sound, and what refuses a frame or a
+ * reset. */
+static void relays(uint8_t restraint)
 {
     for (int c = 0; c < 6; c++)
         settings.drop[c] = 819;
-    for (int c = 0; c < 3; c++)
+    for (int c = 0; c < 3; c++) {
         settings.pickup[c] = 3413;
+        settings.restraint[c] = restraint;
+    }
     measure(FRESH);
     relay = made.relay;
     for (unsigned n = 0; n < 200; n++) {
@@ -127,9 +134,27 @@ static void relays(void)
     frame_and_reset();
     relay.channels[5].samples[7] = 512;
     frame_and_reset();
+    settings.restraint[2] = 101;
+    measure(FRESH);
+    refusals[made.refusal]++;
     settings.pickup[2] = 0;
     measure(FRESH);
     refusals[made.refusal]++;
+}
+
+/* Windows of all orders, the greatest and a wrong one among them. */
+static void estimates(void)
+{
+    for (order = 0; order < 5; order++)
+        for (int k = 0; k < 256; k++)
+            for (int wrong = 0; wrong < 2; wrong++) {
+                for (int slot = 0; slot < 8; slot++)
+                    samples.samples[slot] = (int16_t)(k >> slot & 1 ? 511 : -512);
+                if (wrong)
+                    samples.samples[k % 8] = 512;
+                measure(ESTIMATE);
+                refusals[estimated.refusal]++;
+            }
 }
 
 /* A capture that was written: whole, a byte long, a byte short, and damaged in its mark, its count and its first
@@ -189,15 +214,17 @@ static void captures(void)
 int main(void)
 {
     int failed = 0;
-    relays();
+    relays(0);
+    relays(15);
+    estimates();
     captures();
     measure(KNOWN);
     if (deepest[KNOWN] < 10000) {
         puts("failed: the depths are not measured");
         failed = 1;
     }
-    for (int n = P6K_ACCEPTED; n <= P6K_FEW_FRAMES; n++)
-        if (refusals[n] == 0) {
+    for (int n = P6K_ACCEPTED; n <= P6K_BAD_RESTRAINT; n++)
+        if (refusals[n] == 0 && (n <= P6K_FEW_FRAMES || n >= P6K_BAD_ESTIMATE)) {
             printf("failed: no call was answered with %d\n", n);
             failed = 1;
         }

@@ -5,7 +5,7 @@
 //! Rust meets all that the C header asks of a caller: slices have true lengths, lent buffers do not overlap, a `bool`
 //! is 0 or 1.
 
-/// The refusals of an answer, numbered and worded as in document 01's table.
+/// The refusals of an answer, numbered and worded as in document 01's table and in document 02.
 pub mod refusal {
     pub const ACCEPTED: u8 = 0;
     /// A setting outside 1 to 10,700.
@@ -34,6 +34,10 @@ pub mod refusal {
     pub const WRONG_SHAPE: u8 = 12;
     /// Fewer than eight frames.
     pub const FEW_FRAMES: u8 = 13;
+    /// An order outside 1 to 3, or a window sample outside -512 to 511.
+    pub const BAD_ESTIMATE: u8 = 19;
+    /// A restraint level above 100.
+    pub const BAD_RESTRAINT: u8 = 20;
 }
 
 /// The cells of a frame: six codes, then the enable byte.
@@ -59,12 +63,15 @@ pub struct Channel {
     pub over_latch: bool,
 }
 
-/// A drop level for each channel and a pickup level for each current (channels 3, 4, 5), in sixteenths of a code.
+/// A drop level for each channel and a pickup level for each current (channels 3, 4, 5), in sixteenths of a code; and a
+/// restraint level for each current, 0 for off or 1 to 100: so many hundredths of the fundamental, which the second
+/// harmonic must not reach in a frame that feeds the over run.
 #[repr(C)]
 #[derive(Clone, Copy, Debug, Default, PartialEq, Eq)]
 pub struct Settings {
     pub drop: [u16; 6],
     pub pickup: [u16; 3],
+    pub restraint: [u8; 3],
 }
 
 /// Any value may be handed in: a relay that is not sound is refused and comes back as it was.
@@ -101,6 +108,14 @@ pub struct ResetAnswer {
     pub refusal: u8,
 }
 
+/// The amplitude of one window for an order.
+#[repr(C)]
+#[derive(Clone, Copy, Debug, PartialEq, Eq)]
+pub struct EstimateAnswer {
+    pub refusal: u8,
+    pub amplitude: u16,
+}
+
 /// `count` is in frames where the call made frames and in bytes where it made bytes.
 #[repr(C)]
 #[derive(Clone, Copy, Debug, PartialEq, Eq)]
@@ -129,6 +144,11 @@ mod raw {
     }
 
     #[repr(C)]
+    pub struct Samples {
+        pub samples: [i16; 8],
+    }
+
+    #[repr(C)]
     pub struct Part {
         pub start: usize,
         pub length: usize,
@@ -138,6 +158,7 @@ mod raw {
         pub fn p6k_fresh(settings: Settings) -> FreshAnswer;
         pub fn p6k_frame(relay: Relay, codes: Codes, enable: u8) -> FrameAnswer;
         pub fn p6k_reset(relay: Relay, mask: u8) -> ResetAnswer;
+        pub fn p6k_estimate(window: Samples, order: u8) -> EstimateAnswer;
         pub fn p6k_read(bytes: *const u8, bytes_length: usize, cells: *mut u16, cells_length: usize) -> Answer;
         pub fn p6k_write(cells: *const u16, cells_length: usize, bytes: *mut u8, bytes_length: usize) -> Answer;
         pub fn p6k_excerpt(cells: *const u16, cells_length: usize, frame: usize, frames: usize) -> Part;
@@ -147,7 +168,7 @@ mod raw {
 }
 
 impl Relay {
-    /// A fresh relay, or with 1 the all-zero one.
+    /// A fresh relay, or with 1 or 20 the all-zero one.
     pub fn fresh(settings: Settings) -> FreshAnswer {
         unsafe { raw::p6k_fresh(settings) }
     }
@@ -161,6 +182,11 @@ impl Relay {
     pub fn reset(self, mask: u8) -> ResetAnswer {
         unsafe { raw::p6k_reset(self, mask) }
     }
+}
+
+/// The amplitude of one window, eight samples by slot, for an order: 1 for the fundamental, 2 or 3 for that harmonic.
+pub fn estimate(samples: [i16; 8], order: u8) -> EstimateAnswer {
+    unsafe { raw::p6k_estimate(raw::Samples { samples }, order) }
 }
 
 /// Reads a capture into the front of the cells; the count is in frames, seven cells each.

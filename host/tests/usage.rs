@@ -1,8 +1,8 @@
 //! Uses the archive through the safe wrapper, as a program of the customer's would, and holds the declared structs to the sizes and
 //! places written down here.
 
-use host::{excerpt, read, refusal, report, strongest, write};
-use host::{Channel, FrameAnswer, FreshAnswer, Relay, ResetAnswer, Settings, StrongestWindow};
+use host::{estimate, excerpt, read, refusal, report, strongest, write};
+use host::{Channel, EstimateAnswer, FrameAnswer, FreshAnswer, Relay, ResetAnswer, Settings, StrongestWindow};
 use host::{FRAME_CELLS, READ_ROOM, REPORT_ROOM, WRITE_ROOM};
 use std::mem::{align_of, offset_of, size_of};
 
@@ -11,17 +11,19 @@ fn layout() {
     assert_eq!((size_of::<Channel>(), align_of::<Channel>()), (20, 2));
     assert_eq!((offset_of!(Channel, loss_run), offset_of!(Channel, over_run)), (16, 17));
     assert_eq!((offset_of!(Channel, loss_latch), offset_of!(Channel, over_latch)), (18, 19));
-    assert_eq!((size_of::<Settings>(), offset_of!(Settings, pickup)), (18, 12));
-    assert_eq!((size_of::<Relay>(), offset_of!(Relay, age), offset_of!(Relay, slot), offset_of!(Relay, settings)), (140, 120, 121, 122));
-    assert_eq!((size_of::<FreshAnswer>(), offset_of!(FreshAnswer, refusal)), (142, 140));
-    assert_eq!((size_of::<ResetAnswer>(), offset_of!(ResetAnswer, refusal)), (142, 140));
-    assert_eq!((size_of::<FrameAnswer>(), offset_of!(FrameAnswer, refusal)), (156, 140));
-    assert_eq!((offset_of!(FrameAnswer, amplitudes), offset_of!(FrameAnswer, output)), (142, 154));
+    // The last byte of the settings, and so of a relay, is padding.
+    assert_eq!((size_of::<Settings>(), offset_of!(Settings, pickup), offset_of!(Settings, restraint)), (22, 12, 18));
+    assert_eq!((size_of::<Relay>(), offset_of!(Relay, age), offset_of!(Relay, slot), offset_of!(Relay, settings)), (144, 120, 121, 122));
+    assert_eq!((size_of::<FreshAnswer>(), offset_of!(FreshAnswer, refusal)), (146, 144));
+    assert_eq!((size_of::<ResetAnswer>(), offset_of!(ResetAnswer, refusal)), (146, 144));
+    assert_eq!((size_of::<FrameAnswer>(), offset_of!(FrameAnswer, refusal)), (160, 144));
+    assert_eq!((offset_of!(FrameAnswer, amplitudes), offset_of!(FrameAnswer, output)), (146, 158));
+    assert_eq!((size_of::<EstimateAnswer>(), align_of::<EstimateAnswer>(), offset_of!(EstimateAnswer, amplitude)), (4, 2, 2));
     assert_eq!((size_of::<host::Answer>(), offset_of!(host::Answer, count)), (16, 8));
     assert_eq!((size_of::<StrongestWindow>(), offset_of!(StrongestWindow, sum), offset_of!(StrongestWindow, frame)), (16, 4, 8));
 }
 
-const SETTINGS: Settings = Settings { drop: [819; 6], pickup: [3413; 3] };
+const SETTINGS: Settings = Settings { drop: [819; 6], pickup: [3413; 3], restraint: [0; 3] };
 
 /// A recording of a fault on channel 4, fed to a relay; the latch is shown until it is reset.
 #[test]
@@ -41,6 +43,28 @@ fn a_fault_is_seen_and_reset() {
     let answer = relay.reset(0x10);
     assert_eq!((answer.refusal, answer.relay.channels[4].over_latch), (refusal::ACCEPTED, false));
     assert_eq!(answer.relay.reset(0xC0).refusal, refusal::BAD_MASK);
+}
+
+/// Magnetising current on channel 3, with a second harmonic of a quarter of the fundamental: it trips a relay without restraint, and no relay
+/// whose restraint level the harmonic reaches.
+#[test]
+fn a_second_harmonic_restrains() {
+    let inrush = [287, 162, -57, -162, -172, -162, -57, 162];
+    let (fundamental, second) = (estimate(inrush, 1), estimate(inrush, 2));
+    assert_eq!(fundamental, EstimateAnswer { refusal: refusal::ACCEPTED, amplitude: 3668 });
+    assert_eq!(second, EstimateAnswer { refusal: refusal::ACCEPTED, amplitude: 916 });
+    assert_eq!(estimate(inrush, 4), EstimateAnswer { refusal: refusal::BAD_ESTIMATE, amplitude: 0 });
+    for (restraint, output) in [(0, 0x08), (24, 0x00), (25, 0x08), (100, 0x08)] {
+        let mut relay = Relay::fresh(Settings { drop: [1; 6], restraint: [restraint; 3], ..SETTINGS }).relay;
+        let mut last = 0;
+        for n in 0..80 {
+            let answer = relay.frame([512, 512, 512, (512 + inrush[n % 8]) as u16, 512, 512], 0x7F);
+            (relay, last) = (answer.relay, answer.output);
+        }
+        assert_eq!(last, output, "restraint {restraint}");
+    }
+    let refused = Relay::fresh(Settings { restraint: [0, 0, 101], ..SETTINGS });
+    assert_eq!((refused.refusal, refused.relay), (refusal::BAD_RESTRAINT, Relay::default()));
 }
 
 #[test]

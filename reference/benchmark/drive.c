@@ -1,5 +1,7 @@
 /* drive WHAT CAPTURE TIMES: runs frames through a fresh relay (frame), reads the capture (read), writes it (write), or reads it and runs its
-   frames (run), so many times. drive generated FRAMES: what crates/relay_check does, over frames of the same small generator.
+   frames (run), so many times; or runs its frames on, all enabled, through one relay with pickups 1 and restraint off (off) or on (on).
+   drive generated FRAMES: what crates/relay_check does, over frames of the same small generator. drive restrained FRAMES R: the same with
+   all enabled, each pickup 1 and each restraint level R, as a first byte of 128 + R asks of it.
    With -DARCHIVE the proved archive does the work, through its C interface; otherwise the second implementation in C, compiled into this
    unit. */
 #include <stdio.h>
@@ -21,9 +23,9 @@ static size_t write_capture(const uint16_t *cells, size_t size, uint8_t *bytes, 
 
 typedef p6k_relay relay_state;
 
-static relay_state fresh(void)
+static relay_state fresh(uint16_t pickup, uint8_t restraint)
 {
-    static const p6k_settings settings = {{819, 819, 819, 819, 819, 819}, {3413, 3413, 3413}};
+    p6k_settings settings = {{819, 819, 819, 819, 819, 819}, {pickup, pickup, pickup}, {restraint, restraint, restraint}};
     return p6k_fresh(settings).relay;
 }
 
@@ -57,11 +59,12 @@ static size_t write_capture(const uint16_t *cells, size_t size, uint8_t *bytes, 
 
 typedef struct relay relay_state;
 
-static relay_state fresh(void)
+static relay_state fresh(uint16_t pickup, uint8_t restraint)
 {
-    static const uint16_t drop[6] = {819, 819, 819, 819, 819, 819}, pickup[3] = {3413, 3413, 3413};
+    const uint16_t drops[6] = {819, 819, 819, 819, 819, 819}, pickups[3] = {pickup, pickup, pickup};
+    const uint8_t restraints[3] = {restraint, restraint, restraint};
     struct relay relay;
-    relay_fresh(&relay, drop, pickup);
+    relay_fresh(&relay, drops, pickups, restraints);
     return relay;
 }
 
@@ -78,16 +81,24 @@ static unsigned long step(relay_state *relay, const uint16_t *cells, uint8_t ena
 
 static unsigned long run(const uint16_t *cells, size_t frames)
 {
-    relay_state relay = fresh();
+    relay_state relay = fresh(3413, 0);
     unsigned long sum = 0;
     for (size_t n = 0; n < frames; n++, cells += 7)
         sum += step(&relay, cells, (uint8_t)cells[6]);
     return sum;
 }
 
-static unsigned long generated(uint64_t frames)
+static unsigned long run_on(relay_state *relay, const uint16_t *cells, size_t frames)
 {
-    relay_state relay = fresh();
+    unsigned long sum = 0;
+    for (size_t n = 0; n < frames; n++, cells += 7)
+        sum += step(relay, cells, 127);
+    return sum;
+}
+
+/* Each enable byte stands for 2 to the power of hold frames. */
+static unsigned long generated(uint64_t frames, relay_state relay, int hold)
+{
     uint64_t state = 1;
     unsigned long sum = 0;
     for (uint64_t n = 0; n < frames; n++) {
@@ -96,7 +107,7 @@ static unsigned long generated(uint64_t frames)
             state = (state * 1103515245 + 12345) % 2147483648;
             codes[c] = (uint16_t)((state >> 16) % 1024);
         }
-        sum += step(&relay, codes, (uint8_t)(127 - (n >> 6) % 64));
+        sum += step(&relay, codes, (uint8_t)(127 - (n >> hold) % 64));
     }
     return sum;
 }
@@ -107,7 +118,11 @@ static uint16_t cells[7 * 4096];
 int main(int words, char **word)
 {
     if (words == 3 && strcmp(word[1], "generated") == 0) {
-        printf("%lu\n", generated(strtoull(word[2], NULL, 10)));
+        printf("%lu\n", generated(strtoull(word[2], NULL, 10), fresh(3413, 0), 6));
+        return 0;
+    }
+    if (words == 4 && strcmp(word[1], "restrained") == 0) {
+        printf("%lu\n", generated(strtoull(word[2], NULL, 10), fresh(1, (uint8_t)atoi(word[3])), 63));
         return 0;
     }
     FILE *file = words == 4 ? fopen(word[2], "rb") : NULL;
@@ -115,6 +130,7 @@ int main(int words, char **word)
         return 1;
     size_t size = fread(capture, 1, sizeof capture, file);
     size_t frames = read_capture(capture, size, cells, sizeof cells / sizeof *cells);
+    relay_state relay = fresh(1, strcmp(word[1], "on") == 0 ? 15 : 0);
     unsigned long sum = 0;
     for (long times = atol(word[3]); times > 0; times--) {
         if (strcmp(word[1], "frame") == 0)
@@ -123,6 +139,8 @@ int main(int words, char **word)
             sum += read_capture(capture, size, cells, sizeof cells / sizeof *cells);
         else if (strcmp(word[1], "write") == 0)
             sum += write_capture(cells, 7 * frames, bytes, sizeof bytes);
+        else if (word[1][0] == 'o')
+            sum += run_on(&relay, cells, frames);
         else
             sum += run(cells, read_capture(capture, size, cells, sizeof cells / sizeof *cells));
     }

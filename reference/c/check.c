@@ -39,6 +39,8 @@ static void take_relay(struct relay *relay)
         relay->drop[c] = (uint16_t)take();
     for (int c = 0; c < CURRENTS; c++)
         relay->pickup[c] = (uint16_t)take();
+    for (int c = 0; c < CURRENTS; c++)
+        relay->restraint[c] = (uint8_t)take();
     relay->age = (uint8_t)take();
     relay->slot = (uint8_t)take();
     for (int c = 0; c < CHANNELS; c++) {
@@ -60,24 +62,27 @@ static void same_number(long number)
 
 static void same_relay(const struct relay *relay)
 {
-    /* The structs have no padding between or after their fields. */
-    _Static_assert(sizeof(struct channel) == 20 && sizeof(struct relay) == 140, "no padding");
+    /* The structs have no padding between their fields; slot is the last. */
+    _Static_assert(sizeof(struct channel) == 20 && offsetof(struct relay, slot) == 142, "no padding");
     struct relay expected;
     take_relay(&expected);
-    if (memcmp(relay, &expected, sizeof expected) != 0)
+    if (memcmp(relay, &expected, offsetof(struct relay, slot) + 1) != 0)
         differs("relay");
 }
 
 static void check_fresh(void)
 {
     uint16_t drop[CHANNELS], pickup[CURRENTS];
+    uint8_t restraint[CURRENTS];
     struct relay relay;
     for (int c = 0; c < CHANNELS; c++)
         drop[c] = (uint16_t)take();
     for (int c = 0; c < CURRENTS; c++)
         pickup[c] = (uint16_t)take();
+    for (int c = 0; c < CURRENTS; c++)
+        restraint[c] = (uint8_t)take();
     memset(&relay, 1, sizeof relay);
-    same_number(relay_fresh(&relay, drop, pickup));
+    same_number(relay_fresh(&relay, drop, pickup, restraint));
     same_relay(&relay);
 }
 
@@ -180,6 +185,18 @@ static void check_strongest(void)
     free(cells);
 }
 
+static void check_estimate(void)
+{
+    int16_t samples[SLOTS];
+    uint16_t amplitude = 9;
+    for (int k = 0; k < SLOTS; k++)
+        samples[k] = (int16_t)take();
+    uint8_t order = (uint8_t)take();
+    same_number(relay_estimate(samples, order, &amplitude));
+    if (take() != amplitude)
+        differs("amplitude");
+}
+
 int main(void)
 {
     int kind;
@@ -191,6 +208,7 @@ int main(void)
         case 4: check_read(); break;
         case 5: check_write(); break;
         case 6: check_strongest(); break;
+        case 7: check_estimate(); break;
         default: differs("kind");
         }
     }

@@ -1,6 +1,7 @@
 #!/bin/sh
-# Compares the C twin with the Rust reference: the bench program on every case
-# and single calls on a random trace, built plainly and with sanitizers.
+# Compares the C twin with the Rust reference: the bench program on every case,
+# as it is and with restraint 15, and single calls on a random trace, built
+# plainly and with sanitizers.
 set -eu
 here=$(cd "$(dirname "$0")/.." && pwd)
 cd "$here"
@@ -11,7 +12,10 @@ cargo build --release --offline --locked --quiet
 reference=target/release/reference
 rm -rf "$out/cases"
 "$reference" cases "$out/cases"
-"$reference" trace 200000 > "$out/trace"
+for capture in "$out"/cases/*.p6k; do
+    "$reference" played 15 < "$capture" > "${capture%.p6k}.15"
+done
+"$reference" trace 250000 > "$out/trace"
 
 strict="-std=c11 -D_POSIX_C_SOURCE=200809L -Wall -Wextra -Wpedantic -Wconversion -Werror"
 for build in "-O2" "-O3 -march=native" "-O1 -g -fsanitize=address,undefined -fno-sanitize-recover=all"; do
@@ -21,7 +25,10 @@ for build in "-O2" "-O3 -march=native" "-O1 -g -fsanitize=address,undefined -fno
     for capture in "$out"/cases/*.p6k; do
         "$out/bench" < "$capture" > "$out/text"
         cmp "$out/text" "${capture%.p6k}.txt"
+        "$out/bench" 15 < "$capture" > "$out/text"
+        cmp "$out/text" "${capture%.p6k}.15"
         count=$((count + 1))
     done
-    echo "$build: $count bench texts agree, $("$out/check" < "$out/trace")"
+    calls=$("$out/check" < "$out/trace") || { echo "$build: $calls"; exit 1; }
+    echo "$build: $count bench texts agree, with and without restraint, $calls"
 done

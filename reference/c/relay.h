@@ -1,5 +1,6 @@
-/* Six-channel phasor relay, after document 01. Every function answers the
-   document's refusal number, 0 if the call is accepted. */
+/* Six-channel phasor relay, after document 01 and Paper 8 of document 02.
+   Every function answers the document's refusal number, 0 if the call is
+   accepted. */
 #ifndef RELAY_H
 #define RELAY_H
 
@@ -13,6 +14,8 @@ enum {
     CURRENTS = 3,
     SLOTS = 8,
     HIGHEST_LEVEL = 10700,
+    HIGHEST_RESTRAINT = 100,
+    HIGHEST_ORDER = 3,
     FULL_AGE = 72,
     FULL_LOSS_RUN = 16,
     FULL_OVER_RUN = 4,
@@ -34,7 +37,9 @@ enum {
     REFUSED_TAIL,
     REFUSED_NO_ROOM,
     REFUSED_SHAPE,
-    REFUSED_TOO_FEW
+    REFUSED_TOO_FEW,
+    REFUSED_ESTIMATE = 19,
+    REFUSED_RESTRAINT
 };
 
 struct channel {
@@ -49,6 +54,7 @@ struct relay {
     struct channel channels[CHANNELS];
     uint16_t drop[CHANNELS];
     uint16_t pickup[CURRENTS];
+    uint8_t restraint[CURRENTS];
     uint8_t age;
     uint8_t slot;
 };
@@ -58,8 +64,12 @@ struct framed {
     uint8_t output;
 };
 
-/* Refused, the relay becomes all zero. */
-int relay_fresh(struct relay *relay, const uint16_t drop[CHANNELS], const uint16_t pickup[CURRENTS]);
+/* Refused, the amplitude is 0. Order 1 is the fundamental. */
+int relay_estimate(const int16_t samples[SLOTS], uint8_t order, uint16_t *amplitude);
+
+/* Refused, the relay becomes all zero. Restraint 0 is off. */
+int relay_fresh(struct relay *relay, const uint16_t drop[CHANNELS], const uint16_t pickup[CURRENTS],
+                const uint8_t restraint[CURRENTS]);
 
 /* Refused, the relay stays as it is and the answer is all zero. */
 int relay_frame(struct relay *relay, const uint16_t codes[CHANNELS], uint8_t enable, struct framed *answer);

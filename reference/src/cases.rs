@@ -100,6 +100,7 @@ pub fn all() -> Vec<Case> {
     let mut table = Table(Vec::new());
     lengths(&mut table);
     latches(&mut table);
+    inrushes(&mut table);
     levels(&mut table);
     noise(&mut table);
     refusals(&mut table);
@@ -227,6 +228,37 @@ fn latches(table: &mut Table) {
     table.add("enable-zero", nothing_on.capture());
     let one_by_one = Frames::new(200, tripping).enable(|n| 0x40 | 1 << (n / 17 % 6));
     table.add("one-channel-at-a-time", one_by_one.capture());
+}
+
+/// The first frame of an inrush.
+const INRUSH: usize = 84;
+/// The first frame of the fault in the midst of it.
+const FAULT: usize = INRUSH + 40;
+
+/// A load, then on each current a magnetising inrush: a fundamental of 275 codes
+/// (4,400 sixteenths), a second harmonic of 40 % of it and an offset, the three
+/// currents a third of a cycle apart.
+fn inrush(n: usize, c: usize) -> u16 {
+    if c < 3 || n < INRUSH {
+        return quiet(n, c);
+    }
+    let (cosine, sine) = [(275, 0), (-138, 238), (-138, -238)][c - 3];
+    let (second_cosine, second_sine) = [(110, 0), (-55, -95), (-55, 95)][c - 3];
+    let slot = n % 8;
+    let double = 2 * n % 8;
+    let sum = cosine * COSINE[slot]
+        + sine * SINE[slot]
+        + second_cosine * COSINE[double]
+        + second_sine * SINE[double];
+    (512 + 100 + ((sum + 8192) >> 14)) as u16
+}
+
+/// For Paper 8: with restraint off all three currents trip on the inrush, with
+/// restraint 15 none does, and of the second capture only channel 4 does.
+fn inrushes(table: &mut Table) {
+    table.add("inrush", Frames::new(160, inrush).capture());
+    let fault = |n, c| if c == 4 && n >= FAULT { wave(n, 200, 360) } else { inrush(n, c) };
+    table.add("inrush-then-fault", Frames::new(168, fault).capture());
 }
 
 /// Channel c trips, a voltage by loss and a current on its wave.

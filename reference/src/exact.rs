@@ -10,6 +10,24 @@ pub struct Exact {
 }
 
 impl Exact {
+    /// The exact amplitude of order 1, 2 or 3.
+    pub fn of_order(window: &Window, order: u8) -> Exact {
+        match order {
+            1 => Exact::of(window),
+            2 => {
+                // "For p = 2, Q is 0 and P is 16((s0 − s2 + s4 − s6)² + (s1 − s3 + s5 − s7)²)."
+                let s = window.map(i128::from);
+                let even = s[0] - s[2] + s[4] - s[6];
+                let odd = s[1] - s[3] + s[5] - s[7];
+                Exact { p: 16 * (even * even + odd * odd), q: 0 }
+            }
+            // "Document 01's Z with sample k replaced by sample 3k mod 8."
+            3 => Exact::of(&std::array::from_fn(|k| window[3 * k % 8])),
+            _ => panic!("no order {order}"),
+        }
+    }
+
+    /// The exact amplitude of document 01: order 1.
     pub fn of(window: &Window) -> Exact {
         let s = window.map(i128::from);
         let a = s[0] - s[4];

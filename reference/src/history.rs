@@ -1,11 +1,11 @@
 //! The latch history of demand 3, read from the list of calls and not by
 //! stepping a relay. Nothing here uses `relay::frame` or `relay::reset`.
 
-use crate::amplitude::{amplitude, sample, Window};
+use crate::amplitude::{amplitude, amplitude_of_order, sample, Window};
 use crate::exact::Exact;
 use crate::relay::{
-    frame_refusal, is_enabled, reset_refusal, Settings, FIRST_CURRENT, FULL_AGE, FULL_LOSS_RUN,
-    FULL_OVER_RUN,
+    frame_refusal, is_enabled, is_unrestrained, reset_refusal, Settings, FIRST_CURRENT, FULL_AGE,
+    FULL_LOSS_RUN, FULL_OVER_RUN,
 };
 
 #[derive(Clone, Copy, Debug, PartialEq, Eq)]
@@ -37,6 +37,9 @@ pub struct AcceptedFrame {
     pub enable: u8,
     pub m: [i64; 6],
     pub z: [Exact; 6],
+    /// The second harmonic, of the same windows.
+    pub second_m: [i64; 6],
+    pub second_z: [Exact; 6],
 }
 
 #[derive(Clone, Copy, Debug)]
@@ -72,6 +75,8 @@ impl History {
                         enable,
                         m: windows.map(|w| amplitude(&w)),
                         z: windows.map(|w| Exact::of(&w)),
+                        second_m: windows.map(|w| amplitude_of_order(&w, 2)),
+                        second_z: windows.map(|w| Exact::of_order(&w, 2)),
                     });
                 }
                 Call::Reset { mask } if reset_refusal(mask) == 0 => {
@@ -108,10 +113,20 @@ impl History {
         })
     }
 
+    /// "The history adds that test to a full over run": in each of its frames
+    /// the restraint level lets the over run grow. A loss run has no such test.
+    pub fn is_unrestrained(&self, latch: Latch, channel: usize, first: usize) -> bool {
+        latch == Latch::Loss
+            || self.frames[first..first + latch.full_run()].iter().all(|frame| {
+                let r = self.settings.restraint[channel - FIRST_CURRENT];
+                is_unrestrained(r, frame.m[channel], frame.second_m[channel])
+            })
+    }
+
     /// Whether the latch is on after the first `calls` calls of the list: "a
     /// full run that meets its level lies wholly after the last accepted reset
-    /// naming the channel, or after the start if there is none". A voltage has
-    /// no over latch.
+    /// naming the channel, or after the start if there is none", an over run
+    /// with the test of restraint. A voltage has no over latch.
     pub fn is_on(&self, latch: Latch, channel: usize, calls: usize) -> bool {
         if latch == Latch::Over && channel < FIRST_CURRENT {
             return false;
@@ -124,6 +139,7 @@ impl History {
         (0..self.frames.len()).any(|first| {
             self.is_full_run(latch, channel, first)
                 && self.meets_level(latch, channel, first)
+                && self.is_unrestrained(latch, channel, first)
                 && lies_between(first)
         })
     }

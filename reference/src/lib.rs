@@ -1,8 +1,10 @@
-//! Six-channel phasor relay: a second implementation of document 01.
+//! Six-channel phasor relay: a second implementation of document 01 and of
+//! Paper 8 of document 02.
 //!
 //! It is written for reading and not for speed. Quotations are from document
-//! 01. NOTES.md says how far it is independent of the proved one, and lists the
-//! decisions taken where document 01's words could be read in two ways.
+//! 01, those on harmonics and restraint from Paper 8. NOTES.md says how far it
+//! is independent of the proved one, and lists the decisions taken where the
+//! words could be read in two ways.
 
 pub mod amplitude;
 pub mod bench;
@@ -12,10 +14,11 @@ pub mod exact;
 pub mod history;
 pub mod prng;
 pub mod relay;
+pub mod restraint;
 pub mod trace;
 
-pub use amplitude::{amplitude, cordic, re_im, sample, Window};
-pub use bench::bench_text;
+pub use amplitude::{amplitude, amplitude_of_order, cordic, estimate, re_im, re_im_of_order, sample, Estimate, Window};
+pub use bench::{bench_text, played_text};
 pub use capture::{excerpt, excerpt_place, read, strongest, write, Outcome, Strongest};
 pub use exact::Exact;
 pub use history::{Call, History, Latch};
@@ -37,4 +40,6 @@ pub mod refusal {
     pub const NO_ROOM: u8 = 11;
     pub const SHAPE: u8 = 12;
     pub const TOO_FEW: u8 = 13;
+    pub const ESTIMATE: u8 = 19;
+    pub const RESTRAINT: u8 = 20;
 }

@@ -1,8 +1,11 @@
 //! `reference bench`: a capture on standard input, the bench text on standard
 //! output. `reference cases DIR`: writes NAME.p6k and NAME.txt for every case.
 //! `reference trace LINES`: random calls with their answers, for c/check.c.
+//! `reference played R`: as bench, if every current had restraint level R.
+//! `reference restraint`: some cases played with restraint levels.
+//! `reference relay-check-restraint`: generated frames on relays with them.
 
-use reference::{bench_text, cases, trace};
+use reference::{bench_text, cases, played_text, relay, restraint, trace};
 use std::io::{self, Read, Write};
 use std::path::Path;
 use std::process::ExitCode;
@@ -11,13 +14,21 @@ fn main() -> ExitCode {
     let arguments: Vec<String> = std::env::args().skip(1).collect();
     let words: Vec<&str> = arguments.iter().map(String::as_str).collect();
     let done = match words[..] {
-        ["bench"] => bench(),
+        ["bench"] => bench(0),
+        ["played", level] => match level.parse() {
+            Ok(level) if level <= relay::HIGHEST_RESTRAINT => bench(level),
+            _ => Err(io::Error::other("R is not 0 to 100")),
+        },
+        ["restraint"] => io::stdout().write_all(restraint::played_cases().as_bytes()),
+        ["relay-check-restraint"] => io::stdout().write_all(restraint::generated().as_bytes()),
         ["cases", directory] => write_cases(Path::new(directory)),
         ["trace", lines] => match lines.parse() {
             Ok(lines) => io::stdout().write_all(trace::text(lines).as_bytes()),
             Err(_) => Err(io::Error::other("LINES is not a number")),
         },
-        _ => Err(io::Error::other("usage: reference bench | cases DIR | trace LINES")),
+        _ => Err(io::Error::other(
+            "usage: reference bench | cases DIR | trace LINES | played R | restraint | relay-check-restraint",
+        )),
     };
     match done {
         Ok(()) => ExitCode::SUCCESS,
@@ -28,10 +39,10 @@ fn main() -> ExitCode {
     }
 }
 
-fn bench() -> io::Result<()> {
+fn bench(restraint: u8) -> io::Result<()> {
     let mut capture = Vec::new();
     io::stdin().read_to_end(&mut capture)?;
-    io::stdout().write_all(&bench_text(&capture))
+    io::stdout().write_all(&played_text(&capture, restraint))
 }
 
 fn write_cases(directory: &Path) -> io::Result<()> {

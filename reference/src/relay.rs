@@ -3,10 +3,11 @@
 //! The structs hold any value, sound or not, because a relay handed in may be
 //! unsound and has to come back "as given".
 
-use crate::amplitude::{amplitude, sample, Window};
+use crate::amplitude::{amplitude, amplitude_of_order, sample, Window};
 use crate::refusal;
 
 pub const HIGHEST_LEVEL: u16 = 10_700;
+pub const HIGHEST_RESTRAINT: u8 = 100;
 /// A frame that finds this age is counted.
 pub const FULL_AGE: u8 = 72;
 pub const FULL_LOSS_RUN: u8 = 16;
@@ -20,6 +21,8 @@ pub struct Settings {
     pub drop: [u16; 6],
     /// A pickup level for each current: channels 3, 4, 5.
     pub pickup: [u16; 3],
+    /// A restraint level for each current, "1 to 100 or 0 for off".
+    pub restraint: [u8; 3],
 }
 
 #[derive(Clone, Copy, Debug, Default, PartialEq, Eq)]
@@ -59,9 +62,27 @@ pub struct Reset {
     pub relay: Relay,
 }
 
-pub fn settings_in_range(settings: &Settings) -> bool {
+/// The refusal number that settings alone decide: 1, then "20 for r above 100".
+pub fn settings_refusal(settings: &Settings) -> u8 {
     let in_range = |level: &u16| (1..=HIGHEST_LEVEL).contains(level);
-    settings.drop.iter().all(in_range) && settings.pickup.iter().all(in_range)
+    if !settings.drop.iter().all(in_range) || !settings.pickup.iter().all(in_range) {
+        refusal::SETTING
+    } else if settings.restraint.iter().any(|&r| r > HIGHEST_RESTRAINT) {
+        refusal::RESTRAINT
+    } else {
+        refusal::ACCEPTED
+    }
+}
+
+pub fn settings_in_range(settings: &Settings) -> bool {
+    settings_refusal(settings) == refusal::ACCEPTED
+}
+
+/// Whether a frame with fundamental m1 and second harmonic m2 may feed the over
+/// run: "r is 0 or 100 times the second-harmonic amplitude is less than r times
+/// the fundamental".
+pub fn is_unrestrained(r: u8, m1: i64, m2: i64) -> bool {
+    r == 0 || 100 * m2 < i64::from(r) * m1
 }
 
 /// "A relay handed in is sound if ...". A run at its end with its latch off is
@@ -89,11 +110,12 @@ pub fn is_enabled(enable: u8, channel: usize) -> bool {
 }
 
 pub fn fresh(settings: Settings) -> Fresh {
-    if !settings_in_range(&settings) {
+    let number = settings_refusal(&settings);
+    if number != refusal::ACCEPTED {
         // "All-zero relay": the settings too.
-        return Fresh { number: refusal::SETTING, relay: Relay::default() };
+        return Fresh { number, relay: Relay::default() };
     }
-    Fresh { number: refusal::ACCEPTED, relay: Relay { settings, ..Relay::default() } }
+    Fresh { number, relay: Relay { settings, ..Relay::default() } }
 }
 
 /// The refusal number that codes and enable byte alone decide.
@@ -169,7 +191,10 @@ fn count_runs(channel: &mut Channel, settings: &Settings, c: usize, m: u16, enab
     }
     channel.loss_run = if m < settings.drop[c] { (channel.loss_run + 1).min(FULL_LOSS_RUN) } else { 0 };
     if c >= FIRST_CURRENT {
-        let over = m >= settings.pickup[c - FIRST_CURRENT];
+        // The answer shows the fundamental only; the second harmonic is found here.
+        let second = amplitude_of_order(&channel.samples, 2);
+        let unrestrained = is_unrestrained(settings.restraint[c - FIRST_CURRENT], i64::from(m), second);
+        let over = m >= settings.pickup[c - FIRST_CURRENT] && unrestrained;
         channel.over_run = if over { (channel.over_run + 1).min(FULL_OVER_RUN) } else { 0 };
     }
 }

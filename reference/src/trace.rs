@@ -1,6 +1,7 @@
 //! Random calls with their answers, as numbers, for a test of the C twin. A
 //! line is: kind, what is handed in, what is handed back. c/check.c reads it.
 
+use crate::amplitude::{amplitude, amplitude_of_order, estimate, Window, COSINE};
 use crate::capture::{read, strongest, write};
 use crate::prng::Prng;
 use crate::relay::{frame, fresh, reset, Channel, Relay, Settings, FIRST_CURRENT};
@@ -22,9 +23,14 @@ impl Line {
         }
     }
 
+    fn settings(&mut self, settings: &Settings) {
+        self.put_all(&settings.drop);
+        self.put_all(&settings.pickup);
+        self.put_all(&settings.restraint);
+    }
+
     fn relay(&mut self, relay: &Relay) {
-        self.put_all(&relay.settings.drop);
-        self.put_all(&relay.settings.pickup);
+        self.settings(&relay.settings);
         self.put_all(&[relay.age, relay.slot]);
         for channel in &relay.channels {
             self.put_all(&channel.samples);
@@ -42,11 +48,23 @@ fn level(prng: &mut Prng) -> u16 {
     }
 }
 
+fn restraint(prng: &mut Prng) -> u8 {
+    match prng.below(6) {
+        0 => 0,
+        1 => [1, 100][prng.below(2) as usize],
+        _ => prng.within(1, 100) as u8,
+    }
+}
+
 fn settings(prng: &mut Prng) -> Settings {
     let mut settings = Settings {
         drop: std::array::from_fn(|_| level(prng)),
         pickup: std::array::from_fn(|_| level(prng)),
+        restraint: std::array::from_fn(|_| restraint(prng)),
     };
+    if prng.once_in(8) {
+        settings.restraint[prng.below(3) as usize] = [101, 255][prng.below(2) as usize];
+    }
     if prng.once_in(8) {
         let wrong = [0, 10_701, 65_535][prng.below(3) as usize];
         match prng.below(9) as usize {
@@ -55,6 +73,28 @@ fn settings(prng: &mut Prng) -> Settings {
         }
     }
     settings
+}
+
+/// Windows at restraint level 37: amplitudes 100 and 37, which is at equality and
+/// restrains, and 173 and 64, which is one less and does not.
+pub const AT_37: [Window; 2] = [[4, 18, -10, 12, -3, -14, 8, 1], [-7, -14, -1, 10, 9, 13, 3, 5]];
+
+/// A window at random: noise, or a wave with a second harmonic of up to half
+/// its peak, or one of the two above.
+fn window(prng: &mut Prng, spread: i64) -> Window {
+    if prng.once_in(8) {
+        return AT_37[prng.below(2) as usize];
+    }
+    if prng.once_in(2) {
+        return std::array::from_fn(|_| prng.within(-spread, spread - 1) as i16);
+    }
+    let peak = prng.within(0, 330);
+    let second = prng.within(0, peak / 2);
+    let turn = prng.below(8) as usize;
+    std::array::from_fn(|k| {
+        let sum = peak * COSINE[(k + turn) % 8] + second * COSINE[2 * (k + turn) % 8];
+        ((sum >> 14) + prng.within(-2, 2)) as i16
+    })
 }
 
 /// A relay at random, sound more often than not.
@@ -68,7 +108,7 @@ pub fn relay(prng: &mut Prng) -> Relay {
     };
     for c in 0..6 {
         relay.channels[c] = Channel {
-            samples: std::array::from_fn(|_| prng.within(-spread, spread - 1) as i16),
+            samples: window(prng, spread),
             loss_run: prng.below(17) as u8,
             over_run: if c < FIRST_CURRENT { 0 } else { prng.below(5) as u8 },
             loss_latch: prng.once_in(3),
@@ -111,12 +151,13 @@ pub fn text(lines: usize) -> String {
     let mut prng = Prng(7);
     let mut text = String::new();
     for _ in 0..lines {
-        let line = match prng.below(8) {
+        let line = match prng.below(10) {
             0 => fresh_line(&mut prng),
             1 => reset_line(&mut prng),
             2 => read_line(&mut prng),
             3 => write_line(&mut prng),
             4 => strongest_line(&mut prng),
+            5 => estimate_line(&mut prng),
             _ => frame_line(&mut prng),
         };
         let numbers: Vec<String> = line.0.iter().map(i64::to_string).collect();
@@ -130,20 +171,45 @@ fn fresh_line(prng: &mut Prng) -> Line {
     let settings = settings(prng);
     let answer = fresh(settings);
     let mut line = Line(vec![1]);
-    line.put_all(&settings.drop);
-    line.put_all(&settings.pickup);
+    line.settings(&settings);
     line.put(answer.number);
     line.relay(&answer.relay);
     line
 }
 
-fn frame_line(prng: &mut Prng) -> Line {
-    let relay = relay(prng);
-    let mut codes: [u16; 6] = std::array::from_fn(|_| prng.code());
+/// What a frame is given: a relay, codes and the enable byte. Half of the codes
+/// leave the window as it is.
+pub fn frame_arguments(prng: &mut Prng) -> (Relay, [u16; 6], u8) {
+    let mut relay = relay(prng);
+    let slot = usize::from(relay.slot % 8);
+    let mut codes: [u16; 6] = std::array::from_fn(|c| {
+        let old = relay.channels[c].samples[slot];
+        if prng.once_in(2) && (-512..=511).contains(&old) {
+            (old + 512) as u16
+        } else {
+            prng.code()
+        }
+    });
+    // A restraint level at the edge: the highest that restrains, or one above.
+    if prng.once_in(2) {
+        let c = prng.below(3) as usize;
+        let mut window = relay.channels[FIRST_CURRENT + c].samples;
+        window[slot] = codes[FIRST_CURRENT + c] as i16 - 512;
+        let (m1, m2) = (amplitude(&window), amplitude_of_order(&window, 2));
+        if m1 > 0 && m2 < m1 {
+            relay.settings.restraint[c] = (100 * m2 / m1 + prng.within(0, 1)) as u8;
+            relay.settings.pickup[c] = prng.within(1, m1.min(10_700)) as u16;
+        }
+    }
     if prng.once_in(10) {
         codes[prng.below(6) as usize] = [1024, 65_535][prng.below(2) as usize];
     }
     let enable = if prng.once_in(8) { prng.below(256) } else { 0x40 | prng.below(128) } as u8;
+    (relay, codes, enable)
+}
+
+fn frame_line(prng: &mut Prng) -> Line {
+    let (relay, codes, enable) = frame_arguments(prng);
     let answer = frame(relay, codes, enable);
     let mut line = Line(vec![2]);
     line.relay(&relay);
@@ -222,5 +288,24 @@ fn strongest_line(prng: &mut Prng) -> Line {
     line.put(answer.number);
     line.put(answer.sum);
     line.put(answer.frame);
+    line
+}
+
+fn estimate_line(prng: &mut Prng) -> Line {
+    let spread = prng.within(1, 512);
+    let mut samples: Window = match prng.below(4) {
+        0 => std::array::from_fn(|_| [-512, 511][prng.below(2) as usize]),
+        _ => window(prng, spread),
+    };
+    if prng.once_in(5) {
+        samples[prng.below(8) as usize] = [-513, 512, i16::MIN, i16::MAX][prng.below(4) as usize];
+    }
+    let order = if prng.once_in(3) { [0, 1, 2, 3, 4, 5, 255][prng.below(7) as usize] } else { 1 + prng.below(3) as u8 };
+    let answer = estimate(samples, order);
+    let mut line = Line(vec![7]);
+    line.put_all(&samples);
+    line.put(order);
+    line.put(answer.refusal);
+    line.put(answer.amplitude);
     line
 }

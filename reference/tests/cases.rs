@@ -1,6 +1,6 @@
 //! The table of stored captures has what it is meant to have.
 
-use reference::{bench_text, cases};
+use reference::{bench_text, cases, played_text, read, restraint};
 use std::collections::{BTreeSet, HashMap};
 
 fn text_of(capture: &[u8]) -> String {
@@ -94,4 +94,81 @@ fn at_the_levels_every_channel_trips_exactly_where_it_should() {
             assert_eq!(out[n], if n < trip { 0 } else { byte }, "{name} {n}");
         }
     }
+}
+
+fn capture_of(name: &str) -> Vec<u8> {
+    cases::all().into_iter().find(|case| case.name == name).unwrap().capture
+}
+
+fn played(capture: &[u8], level: u8) -> String {
+    String::from_utf8(played_text(capture, level)).unwrap()
+}
+
+#[test]
+fn restraint_0_is_the_bench_program() {
+    for case in cases::all() {
+        assert_eq!(played_text(&case.capture, 0), bench_text(&case.capture));
+    }
+}
+
+/// With restraint off the inrush trips all three currents; with 15 it trips none.
+#[test]
+fn an_inrush_is_restrained() {
+    let capture = capture_of("inrush");
+    let off = outputs(&played(&capture, 0));
+    let on = outputs(&played(&capture, 15));
+    assert_eq!((off.len(), on.len()), (160, 160));
+    assert!(off[..84].iter().all(|&byte| byte == 0), "the load trips nothing");
+    assert_eq!(off[159], 0x38);
+    assert!(on.iter().all(|&byte| byte == 0));
+    // The amplitudes are the fundamental's whatever the restraint.
+    let amplitudes = |text: String| -> Vec<String> {
+        text.lines().map(|line| line.rsplit_once(' ').unwrap().0.to_string()).collect()
+    };
+    assert_eq!(amplitudes(played(&capture, 0)), amplitudes(played(&capture, 15)));
+}
+
+/// A fault on channel 4 in the midst of it trips channel 4 alone.
+#[test]
+fn a_fault_in_an_inrush_trips_its_channel_only() {
+    let capture = capture_of("inrush-then-fault");
+    let on = outputs(&played(&capture, 15));
+    let first = on.iter().position(|&byte| byte != 0).unwrap();
+    assert!((124..140).contains(&first), "{first}");
+    assert!(on[first..].iter().all(|&byte| byte == 0x10));
+    assert_eq!(outputs(&played(&capture, 0)).last(), Some(&0x38));
+}
+
+/// Both inrush captures have every enable bit on, and the same first 124 frames.
+#[test]
+fn the_inrush_captures_begin_alike() {
+    let [first, second] = ["inrush", "inrush-then-fault"].map(|name| {
+        let mut cells = vec![0; 7 * 200];
+        let outcome = read(&capture_of(name), &mut cells);
+        assert_eq!(outcome.number, 0);
+        cells.truncate(7 * outcome.count);
+        assert!(cells.chunks(7).all(|frame| frame[6] == 0x7F));
+        cells
+    });
+    assert_eq!(first[..7 * 124], second[..7 * 124]);
+}
+
+#[test]
+fn restraint_texts() {
+    let text = restraint::played_cases();
+    let heads: Vec<&str> = text.lines().filter(|line| line.contains("restraint")).collect();
+    assert_eq!(heads[..2], ["inrush.p6k restraint 0", "inrush.p6k restraint 15"]);
+    assert_eq!(heads[2..], ["inrush-then-fault.p6k restraint 15", "over-3.p6k restraint 15"]);
+    assert!(text.ends_with(&played(&capture_of("over-3"), 15)));
+
+    // Of the generated settings, most have latches that restraint decides.
+    let blocks = |text: String| -> Vec<String> {
+        let after_its_levels = |block: &str| block.split_once('\n').unwrap().1.to_string();
+        text.split("setting ").skip(1).map(after_its_levels).collect()
+    };
+    let as_set = blocks(restraint::generated());
+    let off = blocks(restraint::generated_with(|_| [0; 3]));
+    let decided = (0..restraint::GENERATED_SETTINGS).filter(|&k| as_set[k] != off[k]).count();
+    println!("restraint decides in {decided} settings");
+    assert!(decided >= 6);
 }

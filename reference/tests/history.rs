@@ -13,6 +13,11 @@ struct Seen {
     latched: [usize; 2],
     cleared: usize,
     z_clause: [usize; 2],
+    /// Over latches that went on with a restraint level above 0.
+    latched_under_restraint: usize,
+    /// Full over runs that meet their level, and clearly so, but are restrained.
+    restrained: usize,
+    clearly_met_but_restrained: usize,
 }
 
 fn latches(relay: &Relay, latch: Latch) -> [bool; 6] {
@@ -42,6 +47,7 @@ fn check(settings: Settings, calls: &[Call], seen: &mut Seen) {
                     assert_eq!(answer.amplitudes.map(i64::from), history.frames[n].m);
                     for c in 0..6 {
                         assert!(history.frames[n].z[c].within_2(history.frames[n].m[c]));
+                        assert!(history.frames[n].second_z[c].within_2(history.frames[n].second_m[c]));
                     }
                     assert_eq!(answer.output, history.output(n));
                     check_z_clauses(&history, &before, &relay, n, seen);
@@ -69,7 +75,9 @@ fn check(settings: Settings, calls: &[Call], seen: &mut Seen) {
     seen.frames += n;
 }
 
-/// "The clauses on Z", at accepted frame n.
+/// "The clauses on Z", at accepted frame n. The clear margin has the test of
+/// restraint "as a further premise"; where an over latch went on, the run found
+/// there has it in each frame.
 fn check_z_clauses(history: &History, before: &Relay, after: &Relay, n: usize, seen: &mut Seen) {
     for (index, latch) in [Latch::Loss, Latch::Over].into_iter().enumerate() {
         for c in if latch == Latch::Loss { 0..6 } else { 3..6 } {
@@ -83,10 +91,14 @@ fn check_z_clauses(history: &History, before: &Relay, after: &Relay, n: usize, s
                     Latch::Over => z.at_least(level + 2),
                     Latch::Loss => z.below(level - 2),
                 });
-                if clearly_met {
+                let unrestrained = history.is_unrestrained(latch, c, full_run.unwrap());
+                if clearly_met && unrestrained {
                     assert!(is_on);
                     seen.z_clause[index] += 1;
                 }
+                seen.clearly_met_but_restrained += usize::from(clearly_met && !unrestrained);
+                let met = history.meets_level(latch, c, full_run.unwrap());
+                seen.restrained += usize::from(met && !unrestrained);
             }
             if is_on && !was_on {
                 assert!(full_run.is_some());
@@ -94,7 +106,11 @@ fn check_z_clauses(history: &History, before: &Relay, after: &Relay, n: usize, s
                     Latch::Over => z.at_least(level - 2),
                     Latch::Loss => z.below(level + 2),
                 }));
+                assert!(history.is_unrestrained(latch, c, full_run.unwrap()));
                 seen.latched[index] += 1;
+                if latch == Latch::Over && history.settings.restraint[c - 3] > 0 {
+                    seen.latched_under_restraint += 1;
+                }
             }
         }
     }
@@ -110,10 +126,18 @@ fn random_list(prng: &mut Prng) -> (Settings, Vec<Call>) {
     let settings = Settings {
         drop: std::array::from_fn(|_| level(prng)),
         pickup: std::array::from_fn(|_| level(prng)),
+        restraint: std::array::from_fn(|_| match prng.below(5) {
+            0 => 0,
+            1 => prng.within(1, 5) as u8,
+            2 => 100,
+            _ => prng.within(6, 60) as u8,
+        }),
     };
     let enable_faults = prng.within(4, 60) as u64;
     let reset_share = prng.within(5, 80) as u64;
     let mut peaks = [200i64; 6];
+    // The second harmonic, as a part of the peak in hundredths.
+    let mut second = [0i64; 6];
     let mut phase = [0; 6];
     let mut frames = 0;
     let calls = (0..prng.below(420))
@@ -126,11 +150,14 @@ fn random_list(prng: &mut Prng) -> (Settings, Vec<Call>) {
                 if prng.once_in(25) {
                     peaks[c] = prng.within(0, 450);
                     phase[c] = prng.below(8) as usize;
+                    second[c] = if prng.once_in(3) { 0 } else { prng.within(0, 60) };
                 }
             }
             let mut codes: [u16; 6] = std::array::from_fn(|c| {
-                let weight = amplitude::COSINE[(frames + phase[c]) % 8];
-                let code = 512 + ((peaks[c] * weight) >> 14) + prng.within(-3, 3);
+                let slot = frames + phase[c];
+                let sum = peaks[c] * amplitude::COSINE[slot % 8]
+                    + peaks[c] * second[c] * amplitude::COSINE[2 * slot % 8] / 100;
+                let code = 512 + (sum >> 14) + prng.within(-3, 3);
                 code.clamp(0, 1023) as u16
             });
             let mut enable = 0x7F;
@@ -165,6 +192,36 @@ fn stepwise_latches_equal_the_history() {
     assert!(seen.frames > 10_000 && seen.refused > 300 && seen.cleared > 100);
     assert!(seen.latched.iter().all(|&count| count > 100));
     assert!(seen.z_clause.iter().all(|&count| count > 500));
+    println!(
+        "latched under restraint {}, restrained full runs {}, clearly met but restrained {}",
+        seen.latched_under_restraint, seen.restrained, seen.clearly_met_but_restrained
+    );
+    assert!(seen.latched_under_restraint > 100 && seen.restrained > 500);
+    assert!(seen.clearly_met_but_restrained > 500);
+}
+
+/// One restrained frame in the midst makes an over run start again; below age
+/// 72 and on the loss run restraint does nothing.
+#[test]
+fn a_restrained_frame_starts_the_over_run_again() {
+    let settings = Settings { drop: [1; 6], pickup: [400; 3], restraint: [15; 3] };
+    let wave = [100, 71, 0, -71, -100, -71, 0, 71];
+    let frame_of = |n: usize, kick: i16| Call::Frame { codes: [(512 + wave[n % 8] + kick) as u16; 6], enable: 0x7F };
+    let mut seen = Seen::default();
+    // A kick stays in the window for eight frames and adds a second harmonic of 4 times its
+    // size: 320 for 80. The wave has 1603, and 15 % of it is 240.
+    let mut latched_at = |kicked: usize, kick: i16| {
+        let calls: Vec<Call> = (0..120).map(|n| frame_of(n, if n == kicked { kick } else { 0 })).collect();
+        check(settings, &calls, &mut seen);
+        let history = History::of(settings, &calls);
+        (0..=calls.len()).find(|&after| history.is_on(Latch::Over, 3, after)).map(|after| after - 1)
+    };
+    assert_eq!(latched_at(200, 0), Some(75));
+    assert_eq!(latched_at(60, 80), Some(75));
+    assert_eq!(latched_at(66, 80), Some(77));
+    assert_eq!(latched_at(74, 80), Some(85));
+    assert_eq!(latched_at(76, 80), Some(75));
+    assert_eq!(latched_at(74, 40), Some(75), "a second harmonic of 160 is not enough");
 }
 
 /// A reset between the frames of a run separates it; a refused one, and one
@@ -172,7 +229,7 @@ fn stepwise_latches_equal_the_history() {
 #[test]
 fn what_separates_a_run() {
     let quiet = Call::Frame { codes: [512; 6], enable: 0x7F };
-    let settings = Settings { drop: [1; 6], pickup: [10_700; 3] };
+    let settings = Settings { drop: [1; 6], pickup: [10_700; 3], restraint: [0; 3] };
     let mut seen = Seen::default();
     let mut latched_at = |between: Call| {
         let mut calls = vec![quiet; 80];

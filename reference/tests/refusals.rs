@@ -1,4 +1,4 @@
-//! Each refusal, 1 to 13, with its whole outcome.
+//! Each refusal, 1 to 13, 19 and 20, with its whole outcome.
 
 use reference::*;
 
@@ -56,6 +56,8 @@ fn refusal_2_soundness() {
         spoil(&|r| r.channels[c].over_latch = true);
         spoil(&|r| r.settings.pickup[c] = 0);
         spoil(&|r| r.settings.pickup[c] = 10_701);
+        spoil(&|r| r.settings.restraint[c] = 101);
+        spoil(&|r| r.settings.restraint[c] = 255);
     }
     for relay in unsound {
         for (codes, enable) in [([512; 6], 0x7F), ([1024; 6], 0xFF)] {
@@ -80,6 +82,7 @@ fn sound_at_the_ends() {
     for c in 3..6 {
         relay.channels[c].over_run = 4;
         relay.channels[c].over_latch = true;
+        relay.settings.restraint[c - 3] = 100;
     }
     assert!(is_sound(&relay));
     let answer = frame(relay, [0, 1023, 512, 0, 1023, 512], 0x7F);
@@ -230,5 +233,45 @@ fn refusals_12_9_13_strongest() {
         let mut cells = quiet.repeat(8);
         cells[7 * 5 + at] = if at == 6 { 128 } else { 1024 };
         assert_eq!(strongest(&cells, 2), refused(9));
+    }
+}
+
+#[test]
+fn refusal_19_estimate() {
+    let refused = Estimate { refusal: 19, amplitude: 0 };
+    let wave = [100, 71, 0, -71, -100, -71, 0, 71];
+    for order in 0..=255 {
+        if (1..=3).contains(&order) {
+            assert_eq!(estimate(wave, order).refusal, 0);
+        } else {
+            assert_eq!(estimate(wave, order), refused, "order {order}");
+        }
+    }
+    for slot in 0..8 {
+        for (sample, number) in [(-512, 0), (511, 0), (-513, 19), (512, 19), (i16::MIN, 19), (i16::MAX, 19)] {
+            let mut samples = wave;
+            samples[slot] = sample;
+            for order in 1..=3 {
+                let answer = estimate(samples, order);
+                assert_eq!(answer.refusal, number);
+                assert!(number == 0 || answer == refused);
+            }
+            assert_eq!(estimate(samples, 0), refused);
+        }
+    }
+}
+
+#[test]
+fn refusal_20_restraint() {
+    for place in 0..3 {
+        for r in 0..=255 {
+            let mut settings = GOOD;
+            settings.restraint[place] = r;
+            let number = if r > 100 { 20 } else { 0 };
+            let expected = if number == 0 { Relay { settings, ..Relay::default() } } else { Relay::default() };
+            assert_eq!(fresh(settings), Fresh { number, relay: expected });
+            settings.drop[5] = 0;
+            assert_eq!(fresh(settings), Fresh { number: 1, relay: Relay::default() }, "1 before 20");
+        }
     }
 }

@@ -4,6 +4,7 @@
 // in for them.
 ghost use mathlib.Core.Path.{_≡_};
 ghost use Rattle.relay.specs.Relay.{freshOf, frameOf, resetOf};
+ghost use Rattle.phasor.specs.Estimate.{estimateOf};
 ghost use Rattle.refusals.specs.Outcomes.{Answered};
 ghost use Rattle.reader.specs.Reading.{readOf};
 ghost use Rattle.writer.specs.Writing.{writeOf};
@@ -12,6 +13,7 @@ ghost use Rattle.cells.specs.Strongest.{strongestOf};
 ghost use Rattle.report.specs.Report.{Reported};
 use cells::Part;
 use cells::StrongestWindow;
+use phasor::EstimateAnswer;
 use refusals::Answer;
 use relay::FrameAnswer;
 use relay::FreshAnswer;
@@ -23,6 +25,12 @@ use relay::Settings;
 #[repr(C)]
 pub struct Codes {
     pub codes: [u16; 6],
+}
+
+// Eight samples by slot.
+#[repr(C)]
+pub struct Samples {
+    pub samples: [i16; 8],
 }
 
 // Makes a fresh relay.
@@ -48,6 +56,15 @@ pub extern "C" fn p6k_reset(relay: Relay, mask: u8) -> ResetAnswer
     ensures { λ r. ⌜ r ≡ resetOf relay mask ⌝ }
 {
     relay.reset(mask)
+}
+
+// The estimate of one window for an order: 1 for the fundamental, 2 or 3 for a harmonic.
+#[no_mangle]
+pub extern "C" fn p6k_estimate(window: Samples, order: u8) -> EstimateAnswer
+    ensures { λ r. ⌜ r ≡ estimateOf (window .samples) order ⌝ }
+{
+    let eight = window.samples;
+    phasor::estimate(eight, order)
 }
 
 // Reads a capture into the front of the lent cells.

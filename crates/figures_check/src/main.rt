@@ -61,6 +61,7 @@ fn made(drop: u16, pickup: u16) -> Relay {
     let answer = Relay::fresh(Settings {
         drop: [drop; 6],
         pickup: [pickup; 3],
+        restraint: [0; 3],
     });
     answer.relay
 }

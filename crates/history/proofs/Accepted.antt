@@ -13,7 +13,7 @@ use Rattle.frames.specs.Bits.{bitOf}
 use Rattle.frames.specs.Codes.{codesInRange}
 use Rattle.relay.specs.declared.Settings.{Settings}
 use Rattle.relay.specs.declared.Relay.{Relay}
-use Rattle.relay.specs.Settings.{levelInRange, levelsInRange, settingsSound, dropsSound, pickupsSound}
+use Rattle.relay.specs.Settings.{levelInRange, levelsInRange, levelsSound, settingsSound, dropsSound, pickupsSound, restraintInRange, restraintsSound}
 use Rattle.relay.specs.Sound.{soundOf}
 use Rattle.relay.specs.Relay.{acceptedFrame, refusedFrame, inputRefusal, frameOf, acceptedReset, refusedReset, maskRefusal, resetOf}
 use Rattle.relay.proofs.Sound.{input-codes}
@@ -75,14 +75,27 @@ says-range : (n : ℕ) (levels : List ℕ) → Between n levels → levelsInRang
 says-range n levels s =
     every-true n (levelInRange levels) (λ k h. and-true _ _ (le-leb 1 (getD levels k 0) (s k h .0)) (le-leb (getD levels k 0) 10700 (s k h .1)))
 
+-- three restraints, each of them at most 100
+pub restraints-say : (restraint : List ℕ) → restraintsSound restraint ≡ true → (k : ℕ) → k < 3 → getD restraint k 0 ≤ 100
+unfolding restraintsSound
+restraints-say restraint e k h = leb-true (getD restraint k 0) 100 (every-at 3 (restraintInRange restraint) e k h)
+
+say-restraints : (restraint : List ℕ) → ((k : ℕ) → k < 3 → getD restraint k 0 ≤ 100) → restraintsSound restraint ≡ true
+unfolding restraintsSound
+say-restraints restraint s = every-true 3 (restraintInRange restraint) (λ k h. le-leb (getD restraint k 0) 100 (s k h))
+
 pub settings-sound : (settings : Settings) → AcceptedSettings settings → settingsSound settings ≡ true
 unfolding dropsSound pickupsSound
-settings-sound settings ok = and-true _ _ (says-range 6 (settings .drop) (ok .drops)) (says-range 3 (settings .pickup) (ok .pickups))
+settings-sound settings ok =
+    and-true _ _ (and-true _ _ (says-range 6 (settings .drop) (ok .drops)) (says-range 3 (settings .pickup) (ok .pickups)))
+    (say-restraints (settings .restraint) (ok .restraints))
 
 pub settings-accepted : (settings : Settings) → settingsSound settings ≡ true → AcceptedSettings settings
 unfolding dropsSound pickupsSound
 settings-accepted settings e =
+    let nine : levelsSound settings ≡ true = and-left (levelsSound settings) _ e in
     record {
-      drops = range-says 6 (settings .drop) (and-left (dropsSound (settings .drop)) _ e);
-      pickups = range-says 3 (settings .pickup) (and-right (dropsSound (settings .drop)) _ e);
+      drops = range-says 6 (settings .drop) (and-left (dropsSound (settings .drop)) _ nine);
+      pickups = range-says 3 (settings .pickup) (and-right (dropsSound (settings .drop)) _ nine);
+      restraints = restraints-say (settings .restraint) (and-right (levelsSound settings) _ e);
     }

@@ -1,5 +1,6 @@
 -- One channel and its own history: after each event its window is the history's, and each of its two latches is on exactly by the rule.
--- One argument serves both kinds of run, over the kind's length and test. Rests on Runs and History.
+-- One argument serves both kinds of run, over the kind's length and test, and so serves relays with other kinds (RestraintOnes). Rests on Runs and
+-- History.
 use Prim.Native.Nat.{ℕ, zero, suc, _+_, _-_, _%_, _≤_, _<_, min}
 use native.Mathlib.Decide.{decLe}
 use native.Mathlib.Omega.{arith}
@@ -15,9 +16,8 @@ use mir.Facts.{and-yes, yes-and}
 use Rattle.lists.specs.Each.{table}
 use Rattle.frames.specs.Codes.{sampleOf}
 use Rattle.relay.specs.declared.Channel.{Channel}
-use Rattle.relay.specs.declared.ChannelLevels.{ChannelLevels}
-use Rattle.relay.specs.Settings.{Kind, settled, loss, over}
-use Rattle.relay.specs.Channel.{freshChannel, clearedOf, runAfter, nextRun, nextLatch, channelAfter}
+use Rattle.relay.specs.Settings.{Kind, settled}
+use Rattle.relay.specs.Channel.{freshChannel, clearedOf, windowAfter, runAfter, nextRun, nextLatch}
 use Rattle.relay.specs.Relay.{ageAfter, slotAfter}
 use Rattle.history.specs.History.{Input, Event, sampled, cleared, frames, resets, resetsBefore, windowOf}
 use Rattle.history.specs.History.{windowAt, Counted, Enabled, FullRun, FullRunMeeting, LatchOn}
@@ -95,7 +95,7 @@ module _ (kind : Kind) where
     next = es ▷ sampled i
 
     -- the frames before it are live as they were
-    live-same : (n : ℕ) → n < frames es → Live es n ↔ Live next n
+    pub live-same : (n : ℕ) → n < frames es → Live es n ↔ Live next n
     live-same n h =
         let one : List Event = sampled i ∷ [] in
         rw (input-append es one n h, window-append es one (suc n) h, before-append es one n h, resets-sampled es i) (λ l. l, λ l. l)
@@ -175,69 +175,84 @@ module _ (kind : Kind) where
               (t .0, t .1, t .2 .run, λ n a b. near n (t .2 .meets n a b));
         }
 
--- ---- a channel: its window and its two kinds of run, and the age and the slot by which the next frame goes
+-- ---- a channel: its window and its two kinds of run, whatever these are, and the age and the slot by which the next frame goes
 
-pub record ChannelIs (levels : ChannelLevels) (es : List Event) (age slot : ℕ) (ch : Channel) : Type 0 where
-  pub samples : ch .samples ≡ windowOf es (frames es)
-  pub lossRun : RunIs (loss levels) es (ch .«loss_run») (ch .«loss_latch»)
-  pub overRun : RunIs (over levels) es (ch .«over_run») (ch .«over_latch»)
-  pub aged : age ≡ min settled (frames es)
-  pub placed : slot ≡ frames es % 8
+module _ (lossKind overKind : Kind) where
+  -- steps 1 to 4 of a frame, with these kinds of run
+  abbrev pub channelBy : ℕ → Bool → Bool → ℕ → Channel → Channel
+  channelBy slot counted enabled code ch =
+      let window : List ℤ = windowAfter slot code ch in
+      let lossRun : ℕ = nextRun lossKind counted enabled window (ch .«loss_run») in
+      let overRun : ℕ = nextRun overKind counted enabled window (ch .«over_run») in
+      record {
+        samples = window;
+        «loss_run» = lossRun;
+        «over_run» = overRun;
+        «loss_latch» = nextLatch lossKind lossRun (ch .«loss_latch»);
+        «over_latch» = nextLatch overKind overRun (ch .«over_latch»);
+      }
+
+  pub record ChannelIs (es : List Event) (age slot : ℕ) (ch : Channel) : Type 0 where
+    pub samples : ch .samples ≡ windowOf es (frames es)
+    pub lossRun : RunIs lossKind es (ch .«loss_run») (ch .«loss_latch»)
+    pub overRun : RunIs overKind es (ch .«over_run») (ch .«over_latch»)
+    pub aged : age ≡ min settled (frames es)
+    pub placed : slot ≡ frames es % 8
 
 -- its latches go by the rule
-module _ {levels : ChannelLevels} {es : List Event} {age slot : ℕ} {ch : Channel} (v : ChannelIs levels es age slot ch) where
-  pub loss-rule : T (ch .«loss_latch») ↔ LatchOn (loss levels) es
-  loss-rule = latch-rule (loss levels) (omega arith) es (ch .«loss_run») (ch .«loss_latch») (v .lossRun)
+module _ (lossKind overKind : Kind) (loss-some : 0 < lossKind .len) (over-some : 0 < overKind .len) where
+  module _ {es : List Event} {age slot : ℕ} {ch : Channel} (v : ChannelIs lossKind overKind es age slot ch) where
+    pub loss-rule : T (ch .«loss_latch») ↔ LatchOn lossKind es
+    loss-rule = latch-rule lossKind loss-some es (ch .«loss_run») (ch .«loss_latch») (v .lossRun)
 
-  pub over-rule : T (ch .«over_latch») ↔ LatchOn (over levels) es
-  over-rule = latch-rule (over levels) (omega arith) es (ch .«over_run») (ch .«over_latch») (v .overRun)
+    pub over-rule : T (ch .«over_latch») ↔ LatchOn overKind es
+    over-rule = latch-rule overKind over-some es (ch .«over_run») (ch .«over_latch») (v .overRun)
 
-pub channel-fresh : (levels : ChannelLevels) → ChannelIs levels [] 0 0 freshChannel
-unfolding freshChannel windowOf table
-channel-fresh levels =
-    record {
-      samples = refl;
-      lossRun = run-fresh (loss levels) (omega arith);
-      overRun = run-fresh (over levels) (omega arith);
-      aged = refl;
-      placed = refl;
-    }
+  pub channel-fresh : ChannelIs lossKind overKind [] 0 0 freshChannel
+  unfolding freshChannel windowOf table
+  channel-fresh =
+      record {
+        samples = refl;
+        lossRun = run-fresh lossKind loss-some;
+        overRun = run-fresh overKind over-some;
+        aged = refl;
+        placed = refl;
+      }
 
-pub channel-cleared : (levels : ChannelLevels) (es : List Event) (age slot : ℕ) (ch : Channel) → ChannelIs levels es age slot ch
-    → ChannelIs levels (es ▷ cleared) age slot (clearedOf ch)
-channel-cleared levels es age slot ch v =
-    record {
-      samples = v .samples ∙ rw (inputs-cleared es) (sym (window-cleared es (frames es)));
-      lossRun = run-cleared (loss levels) (omega arith) es;
-      overRun = run-cleared (over levels) (omega arith) es;
-      aged = rw (inputs-cleared es) (v .aged);
-      placed = rw (inputs-cleared es) (v .placed);
-    }
+  pub channel-cleared : (es : List Event) (age slot : ℕ) (ch : Channel) → ChannelIs lossKind overKind es age slot ch
+      → ChannelIs lossKind overKind (es ▷ cleared) age slot (clearedOf ch)
+  channel-cleared es age slot ch v =
+      record {
+        samples = v .samples ∙ rw (inputs-cleared es) (sym (window-cleared es (frames es)));
+        lossRun = run-cleared lossKind loss-some es;
+        overRun = run-cleared overKind over-some es;
+        aged = rw (inputs-cleared es) (v .aged);
+        placed = rw (inputs-cleared es) (v .placed);
+      }
 
-age-step : (age n : ℕ) → age ≡ min settled n → ageAfter age ≡ min settled (suc n)
+pub age-step : (age n : ℕ) → age ≡ min settled n → ageAfter age ≡ min settled (suc n)
 age-step age n e = by (ltb age settled) refl
   where
     by : (b : Bool) → ltb age settled ≡ b → cond b (age + 1) age ≡ min settled (suc n)
     by true q = omega (arith, ltb-true age settled q)
     by false q = omega (arith, ltb-false age settled q)
 
-slot-step : (slot n : ℕ) → slot ≡ n % 8 → slotAfter slot ≡ suc n % 8
+pub slot-step : (slot n : ℕ) → slot ≡ n % 8 → slotAfter slot ≡ suc n % 8
 slot-step slot n e = by (ltb slot 7) refl
   where
     by : (b : Bool) → ltb slot 7 ≡ b → cond b (slot + 1) 0 ≡ suc n % 8
     by true q = omega (arith, ltb-true slot 7 q)
     by false q = omega (arith, ltb-false slot 7 q)
 
-pub channel-sampled : (levels : ChannelLevels) (es : List Event) (age slot : ℕ) (ch : Channel) (code : ℕ) (channelBit bit6 : Bool)
-    → ChannelIs levels es age slot ch
-    → ChannelIs levels (es ▷ sampled (record { sample = sampleOf code; channelBit = channelBit; bit6 = bit6 })) (ageAfter age) (slotAfter slot)
-    (channelAfter levels slot (leb settled age) (channelBit && bit6) code ch)
-unfolding channelAfter
-channel-sampled levels es age slot ch code channelBit bit6 v =
+pub channel-sampled : (lossKind overKind : Kind) → 0 < lossKind .len → 0 < overKind .len → (es : List Event) (age slot : ℕ) (ch : Channel) (code : ℕ)
+    (channelBit bit6 : Bool) → ChannelIs lossKind overKind es age slot ch
+    → ChannelIs lossKind overKind (es ▷ sampled (record { sample = sampleOf code; channelBit = channelBit; bit6 = bit6 })) (ageAfter age)
+    (slotAfter slot) (channelBy lossKind overKind slot (leb settled age) (channelBit && bit6) code ch)
+channel-sampled lossKind overKind loss-some over-some es age slot ch code channelBit bit6 v =
     record {
       samples = window ∙ rw frames-sampled;
-      lossRun = run-sampled (loss levels) es i (omega arith) age (ch .«loss_run») (ch .«loss_latch») _ (v .aged) window (v .lossRun);
-      overRun = run-sampled (over levels) es i (omega arith) age (ch .«over_run») (ch .«over_latch») _ (v .aged) window (v .overRun);
+      lossRun = run-sampled lossKind es i loss-some age (ch .«loss_run») (ch .«loss_latch») _ (v .aged) window (v .lossRun);
+      overRun = run-sampled overKind es i over-some age (ch .«over_run») (ch .«over_latch») _ (v .aged) window (v .overRun);
       aged = rw frames-sampled (age-step age (frames es) (v .aged));
       placed = rw frames-sampled (slot-step slot (frames es) (v .placed));
     }

@@ -16,14 +16,16 @@ use Rattle.phasor.proofs.Calls.{exact}
 use Rattle.relay.specs.declared.ChannelLevels.{ChannelLevels}
 use Rattle.relay.specs.declared.Settings.{Settings}
 use Rattle.relay.specs.declared.FrameAnswer.{FrameAnswer}
+use Rattle.relay.specs.Settings.{levelsInRange, restraintsSound}
 use Rattle.relay.specs.Relay.{freshOf, frameOf, resetOf}
 use Rattle.relay.proofs.Examples.{equalLevels}
 use Rattle.history.specs.Calls.{Codes, Call, frame, reset, frameRefusedBy, resetRefusedBy, refusalOf, acceptedFrames, theRelay}
 use Rattle.history.specs.History.{Event, sampled, cleared, channelHistory, frames, inputAt, resets, resetsBefore}
 use Rattle.history.specs.History.{windowAt, Counted, Enabled, FullRun}
-use Rattle.history.specs.Demand.{SurelyBelowDrop, PossiblyBelowDrop, SurelyOverPickup, PossiblyOverPickup}
+use Rattle.history.specs.Demand.{harmonicTest, SurelyBelowDrop, PossiblyBelowDrop, SurelyOverPickup, PossiblyOverPickup}
+use Rattle.history.specs.Demand.{SurelyOver, PossiblyOver}
 use Rattle.history.specs.Demand.{Margins, levels, lossOf, overOf, LossMargins, OverMargins, relayAfter, lossAfter, overAfter, AcceptedSettings}
-use Rattle.history.proofs.Accepted.{range-says}
+use Rattle.history.proofs.Accepted.{range-says, restraints-say}
 use Rattle.history.proofs.Computed.{computed}
 
 -- ---- a list of calls with refused ones in it
@@ -51,18 +53,22 @@ abbrev rising : ℕ → List Call
 rising zero = []
 rising (suc n) = rising n ++ (frame (six 512 512 (513 + n) 512 512 512) 0x7F ∷ [])
 
--- drop levels that are all unlike, and pickup levels; and levels of 1 with another in the last place of a kind
+-- drop levels that are all unlike, and pickup levels, and restraints; and levels of 1 with another in the last place of a kind
 abbrev nine : Settings
-nine = record { drop = 401 ∷ 402 ∷ 403 ∷ 404 ∷ 405 ∷ 400 ∷ []; pickup = 399 ∷ 398 ∷ 401 ∷ [] }
+nine = record { drop = 401 ∷ 402 ∷ 403 ∷ 404 ∷ 405 ∷ 400 ∷ []; pickup = 399 ∷ 398 ∷ 401 ∷ []; restraint = 100 ∷ 0 ∷ 7 ∷ [] }
 
 abbrev lastDrop : ℕ → Settings
-lastDrop level = record { drop = set (replicate 6 1) 5 level; pickup = replicate 3 1 }
+lastDrop level = record { drop = set (replicate 6 1) 5 level; pickup = replicate 3 1; restraint = replicate 3 0 }
 
 abbrev lastPickup : ℕ → Settings
-lastPickup level = record { drop = replicate 6 1; pickup = set (replicate 3 1) 2 level }
+lastPickup level = record { drop = replicate 6 1; pickup = set (replicate 3 1) 2 level; restraint = replicate 3 0 }
 
-abbrev own : ℕ → ℕ → Bool → ChannelLevels
-own drop pickup current = record { drop = drop; pickup = pickup; current = current }
+-- levels of 1 under these restraints
+abbrev pub restrained : List ℕ → Settings
+restrained restraint = record { drop = replicate 6 1; pickup = replicate 3 1; restraint = restraint }
+
+abbrev own : ℕ → ℕ → ℕ → Bool → ChannelLevels
+own drop pickup restraint current = record { drop = drop; pickup = pickup; restraint = restraint; current = current }
 
 -- frames of code 512 under levels that are all 1 (document 01, "Bench figures"), "Enable bits 0 to 6 are on throughout"
 abbrev pub ones : Settings
@@ -92,6 +98,13 @@ ourAge list = relayAfter theRelay ones list .age
 abbrev window400 : List ℤ
 window400 = pos 100 ∷ replicate 7 (pos 0)
 
+-- m1 = 100 and m2 = 37; m1 = 173 and m2 = 64: 37 m1 − 100 m2 is 0 and 1
+abbrev window100 : List ℤ
+window100 = pos 4 ∷ pos 18 ∷ negℤ (pos 10) ∷ pos 12 ∷ negℤ (pos 3) ∷ negℤ (pos 14) ∷ pos 8 ∷ pos 1 ∷ []
+
+abbrev window173 : List ℤ
+window173 = negℤ (pos 7) ∷ negℤ (pos 14) ∷ negℤ (pos 1) ∷ pos 10 ∷ pos 9 ∷ pos 13 ∷ pos 3 ∷ pos 5 ∷ []
+
 pub record HistoryCalls : Type 0 where
   -- the demand is claimed of the functions that the contracts of `fresh`, `frame` and `reset` name
   pub ours : theRelay ≡ record { fresh = freshOf; frame = frameOf; reset = resetOf }
@@ -100,6 +113,9 @@ pub record HistoryCalls : Type 0 where
   pub highest-pickups : AcceptedSettings (equalLevels 1 10700)
   pub lowest : AcceptedSettings ones
   pub unlike : AcceptedSettings nine
+  -- "1 to 100 or 0 for off": the highest, and one above it in the last place
+  pub highest-restraints : AcceptedSettings (restrained (replicate 3 100))
+  pub last-restraint : ¬ AcceptedSettings (restrained (0 ∷ 0 ∷ 101 ∷ []))
   pub last-drop : ¬ AcceptedSettings (lastDrop 10701) × ¬ AcceptedSettings (lastDrop 0)
   pub last-pickup : ¬ AcceptedSettings (lastPickup 10701) × ¬ AcceptedSettings (lastPickup 0)
   -- "a code above 1023", in each channel, before "enable bit 7 is 1"; the highest codes and the lowest are accepted with bits 0 to 6 and with none
@@ -129,12 +145,12 @@ pub record HistoryCalls : Type 0 where
   pub turning : windowAt (channelHistory 2 (rising 12)) 11 ≡ pos 9 ∷ pos 10 ∷ pos 11 ∷ pos 12 ∷ pos 5 ∷ pos 6 ∷ pos 7 ∷ pos 8 ∷ []
   -- "a drop level for each channel and a pickup level for each current"
   pub own-levels : table 6 (levels nine)
-      ≡ own 401 0 false ∷ own 402 0 false ∷ own 403 0 false ∷ own 404 399 true ∷ own 405 398 true ∷ own 400 401 true ∷ []
+      ≡ own 401 0 0 false ∷ own 402 0 0 false ∷ own 403 0 0 false ∷ own 404 399 100 true ∷ own 405 398 0 true ∷ own 400 401 7 true ∷ []
   -- the clauses on Z are said of channel c's own levels
   pub own-margins : (LossMargins nine 4 story true false
       → Margins (lossOf nine 4) (SurelyBelowDrop 405) (PossiblyBelowDrop 405) (channelHistory 4 story) true false)
-      × (OverMargins nine 4 story true false
-      → Margins (overOf nine 4) (SurelyOverPickup 398) (PossiblyOverPickup 398) (channelHistory 4 story) true false)
+      × (OverMargins nine 5 story true false
+      → Margins (overOf nine 5) (SurelyOver 401 7) (PossiblyOver 401 7) (channelHistory 5 story) true false)
   -- "A full run is 16 (loss) .. successive counted frames": of 88 frames the last sixteen are one, and no sixteen before or after them
   pub full-run : FullRun long 16 72
   pub too-early : ¬ FullRun long 16 71
@@ -151,13 +167,27 @@ pub record HistoryCalls : Type 0 where
   -- "16 (loss) or 4 (over)"; "m < drop (loss) or m ≥ pickup (over)" at m = 400
   pub lengths : (lossOf nine 5 .len ≡ 16) × (overOf nine 5 .len ≡ 4)
   pub losing : table 6 (λ c. lossOf nine c .meets window400) ≡ replicate 5 true ++ (false ∷ [])
-  pub rising-over : table 6 (λ c. overOf nine c .meets window400) ≡ replicate 3 false ++ (true ∷ true ∷ false ∷ [])
+  -- the restraint of 100 holds channel 3 back: the second harmonic is 400 too
+  pub rising-over : table 6 (λ c. overOf nine c .meets window400) ≡ replicate 4 false ++ (true ∷ false ∷ [])
   pub at-pickup : overOf (equalLevels 1 400) 3 .meets window400 ≡ true
+  -- Paper 8's test, each current with its own r: at 37 m1 − 100 m2 = 0 it fails, at 1 it holds; r 0, 1 and 100; and it is no test of the loss run
+  pub tested-0 : table 6 (λ c. overOf (restrained (36 ∷ 37 ∷ 38 ∷ [])) c .meets window100) ≡ replicate 5 false ++ (true ∷ [])
+  pub tested-1 : table 6 (λ c. overOf (restrained (36 ∷ 37 ∷ 38 ∷ [])) c .meets window173) ≡ replicate 4 false ++ (true ∷ true ∷ [])
+  pub tested-ends : table 6 (λ c. overOf (restrained (0 ∷ 1 ∷ 100 ∷ [])) c .meets window100) ≡ replicate 3 false ++ (true ∷ false ∷ true ∷ [])
+  pub loss-untested : table 6 (λ c. lossOf (equalLevels 101 1) c .meets window100) ≡ replicate 6 true
+  pub test-alone : (harmonicTest 37 window100 ≡ false) × (harmonicTest 37 window173 ≡ true) × (harmonicTest 0 window100 ≡ true)
+  -- the test is asked beside each margin
+  pub tested-margins : ¬ SurelyOver 1 37 window100 × ¬ PossiblyOver 1 37 window100
   -- the margins of 2, at Z = 400: "Z ≥ pickup + 2", "Z ≥ pickup − 2"; "Z < drop − 2", "Z < drop + 2"
   pub over-margins : SurelyOverPickup 398 window400 × ¬ SurelyOverPickup 399 window400
       × PossiblyOverPickup 402 window400 × ¬ PossiblyOverPickup 403 window400
   pub loss-margins : SurelyBelowDrop 403 window400 × ¬ SurelyBelowDrop 402 window400
       × PossiblyBelowDrop 399 window400 × ¬ PossiblyBelowDrop 398 window400
+
+-- settings whose tests compute to true
+pub in-range : (s : Settings) → levelsInRange 6 (s .drop) ≡ true → levelsInRange 3 (s .pickup) ≡ true → restraintsSound (s .restraint) ≡ true
+    → AcceptedSettings s
+in-range s d p r = record { drops = range-says 6 (s .drop) d; pickups = range-says 3 (s .pickup) p; restraints = restraints-say (s .restraint) r }
 
 pub calls : HistoryCalls
 unfolding computed
@@ -167,13 +197,17 @@ calls =
       highest-drops = record {
         drops = λ c h. rw (getD-replicate {A = ℕ} 6 c 10700 0 h) (omega arith, omega arith);
         pickups = λ k h. rw (getD-replicate {A = ℕ} 3 k 1 0 h) (omega arith, omega arith);
+        restraints = restraints-say (replicate 3 0) refl;
       };
       highest-pickups = record {
         drops = λ c h. rw (getD-replicate {A = ℕ} 6 c 1 0 h) (omega arith, omega arith);
         pickups = λ k h. rw (getD-replicate {A = ℕ} 3 k 10700 0 h) (omega arith, omega arith);
+        restraints = restraints-say (replicate 3 0) refl;
       };
-      lowest = record { drops = range-says 6 (ones .drop) refl; pickups = range-says 3 (ones .pickup) refl };
-      unlike = record { drops = range-says 6 (nine .drop) refl; pickups = range-says 3 (nine .pickup) refl };
+      lowest = in-range ones refl refl refl;
+      unlike = in-range nine refl refl refl;
+      highest-restraints = in-range (restrained (replicate 3 100)) refl refl refl;
+      last-restraint = λ s. absurd (omega (arith, s .restraints 2 (omega arith)));
       last-drop = (λ s. absurd (omega (arith, s .drops 5 (omega arith) .1)), λ s. absurd (omega (arith, s .drops 5 (omega arith) .0)));
       last-pickup = (λ s. absurd (omega (arith, s .pickups 2 (omega arith) .1)), λ s. absurd (omega (arith, s .pickups 2 (omega arith) .0)));
       codes-high = refl;
@@ -218,6 +252,12 @@ calls =
       losing = refl;
       rising-over = refl;
       at-pickup = refl;
+      tested-0 = refl;
+      tested-1 = refl;
+      tested-ends = refl;
+      loss-untested = refl;
+      test-alone = (refl, refl, refl);
+      tested-margins = (λ s. s .1, λ s. s .1);
       over-margins = (exact .least-400, exact .below-401, exact .least-400, exact .below-401);
       loss-margins = (exact .below-401, λ f. f (exact .least-400), exact .below-401, λ f. f (exact .least-400));
     }

@@ -1,13 +1,14 @@
--- What demand 3 gives of any implementation that meets it, sentence by sentence, with document 01's levels and numbers written out. Each is a part
+-- What demand 3 gives of any implementation that meets it, sentence by sentence, with the documents' levels and numbers written out. Each is a part
 -- of the demand, so that a clause of it cannot be weakened unseen. Rests on the demand's definitions alone.
-use Prim.Native.Nat.{ℕ, _+_, _-_, _≤_, _<_}
+use Prim.Native.Nat.{ℕ, _+_, _-_, _*_, _≤_, _<_}
 use mathlib.Core.Path.{_≡_, refl, sym}
-use mathlib.Core.Bool.{true}
+use mathlib.Core.Bool.{true, _||_}
 use mathlib.Core.List.{List, [], _∷_, _++_, append-nil}
 use lib.IntN.{pos, _+ℤ_, _-ℤ_}
-use lib.Dec.{T}
+use lib.Dec.{T, ltb, eqb}
 use lib.ListN.{getD}
 use borrow.Author.Tests.{le-leb}
+use Rattle.phasor.specs.Cordic.{amplitudeOf}
 use Rattle.phasor.specs.Exact.{AtLeast, AtMost}
 use Rattle.relay.specs.declared.Settings.{Settings}
 use Rattle.relay.specs.Sound.{soundOf}
@@ -46,31 +47,37 @@ module _ (d : Implementation) (meets : Demanded d) (settings : Settings) (ok : A
 
     -- "each within 2 of Z"; "It is never above 10,700."
     pub within-2 : (c : ℕ) → c < 6
-        → AtLeast (windowAt (history c) (acceptedFrames past)) (pos (amplitude c) -ℤ pos 2)
-        × AtMost (windowAt (history c) (acceptedFrames past)) (pos (amplitude c) +ℤ pos 2)
+        → AtLeast 1 (windowAt (history c) (acceptedFrames past)) (pos (amplitude c) -ℤ pos 2)
+        × AtMost 1 (windowAt (history c) (acceptedFrames past)) (pos (amplitude c) +ℤ pos 2)
     within-2 c h = (answered .within c h .low, answered .within c h .high)
 
     pub never-above : (c : ℕ) → c < 6 → amplitude c ≤ 10700
     never-above = answered .bounded
 
+    -- Paper 8: "r is 0 or 100 times the second-harmonic amplitude is less than r times the fundamental", in frame n
+    abbrev Tested : ℕ → ℕ → Type 0
+    Tested c n =
+        let r : ℕ = getD (settings .restraint) (c - 3) 0 in
+        T (eqb r 0 || ltb (100 * amplitudeOf 2 (windowAt (history c) n)) (r * amplitudeOf 1 (windowAt (history c) n)))
+
     -- "if Z ≥ pickup + 2 (over) or Z < drop − 2 (loss) in each frame of a full run, the latch is on after its last frame"
     pub loss-clear : (c : ℕ) → c < 6 → (j : ℕ) → j + 16 ≡ frames (history c) → FullRun (history c) 16 j
-        → ((n : ℕ) → j ≤ n → n < j + 16 → ¬ AtLeast (windowAt (history c) n) (pos (getD (settings .drop) c 0) -ℤ pos 2))
+        → ((n : ℕ) → j ≤ n → n < j + 16 → ¬ AtLeast 1 (windowAt (history c) n) (pos (getD (settings .drop) c 0) -ℤ pos 2))
         → T (lossAfter d settings calls c)
     loss-clear c h = answered .lossMargins c h .clearMargin
 
     pub over-clear : (c : ℕ) → 3 ≤ c → c < 6 → (j : ℕ) → j + 4 ≡ frames (history c) → FullRun (history c) 4 j
-        → ((n : ℕ) → j ≤ n → n < j + 4 → AtLeast (windowAt (history c) n) (pos (getD (settings .pickup) (c - 3) 0) +ℤ pos 2))
+        → ((n : ℕ) → j ≤ n → n < j + 4 → AtLeast 1 (windowAt (history c) n) (pos (getD (settings .pickup) (c - 3) 0) +ℤ pos 2) × Tested c n)
         → T (overAfter d settings calls c)
     over-clear c k h = rw (le-leb 3 c k) at (answered .overMargins c k h .clearMargin)
 
     -- "where a latch went on in a frame, Z ≥ pickup − 2 or Z < drop + 2 held in each frame of the full run ending there"
     pub loss-near : (c : ℕ) → c < 6 → ¬ T (lossAfter d settings past c) → T (lossAfter d settings calls c)
         → (j : ℕ) × (j + 16 ≡ frames (history c)) × FullRun (history c) 16 j
-        × ((n : ℕ) → j ≤ n → n < j + 16 → ¬ AtLeast (windowAt (history c) n) (pos (getD (settings .drop) c 0) +ℤ pos 2))
+        × ((n : ℕ) → j ≤ n → n < j + 16 → ¬ AtLeast 1 (windowAt (history c) n) (pos (getD (settings .drop) c 0) +ℤ pos 2))
     loss-near c h = answered .lossMargins c h .nearMargin
 
     pub over-near : (c : ℕ) → 3 ≤ c → c < 6 → ¬ T (overAfter d settings past c) → T (overAfter d settings calls c)
         → (j : ℕ) × (j + 4 ≡ frames (history c)) × FullRun (history c) 4 j
-        × ((n : ℕ) → j ≤ n → n < j + 4 → AtLeast (windowAt (history c) n) (pos (getD (settings .pickup) (c - 3) 0) -ℤ pos 2))
+        × ((n : ℕ) → j ≤ n → n < j + 4 → AtLeast 1 (windowAt (history c) n) (pos (getD (settings .pickup) (c - 3) 0) -ℤ pos 2) × Tested c n)
     over-near c k h = rw (le-leb 3 c k) at (answered .overMargins c k h .nearMargin)

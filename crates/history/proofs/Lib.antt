@@ -2,6 +2,8 @@ pub mod Accepted
 pub mod Channel
 pub mod Computed
 pub mod Refutations
+pub mod Restraint
+pub mod RestraintOnes
 pub mod Relay
 pub mod Runs
 pub mod History

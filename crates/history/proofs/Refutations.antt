@@ -1,6 +1,6 @@
 -- No wrong relay meets demand 3: what meets it answers as ours does (Unique), and on one list of calls or another a wrong relay does not. Most of
 -- these are frames of code 512 with every level 1 (document 01, "Bench figures"): "loss latches in frame 87; in frame 86 none". What ours answers is
--- computed in HistoryCalls. Rests on Unique.
+-- computed in HistoryCalls. Relays that restrain wrongly are in Restraint. Rests on Unique.
 use Prim.Native.Nat.{ℕ, zero, suc, _≤_, _<_}
 use native.Mathlib.Decide.{decLe}
 use native.Mathlib.Omega.{arith}
@@ -25,9 +25,11 @@ use Rattle.history.specs.Calls.{Call, frame, reset, frameRefusedBy, rese
 use Rattle.history.specs.Demand.{relayAfter, lossAfter, AcceptedSettings, Demanded}
 use Rattle.history.specs.WrongRelays.{EachFrame, EachReset, FixedLatches, Wrong, neverTrips, unaltered, fixedAmplitude}
 use Rattle.history.specs.WrongRelays.{fixedLatches, restartsAge, ignoresEnable, oneTooMany, refusesSettings, refusesReset}
+use Rattle.history.specs.WrongRelays.{ignoresRestraint, notStrict, thirdHarmonic, keepsRun, restrainsLoss, anothersRestraint}
 use Rattle.history.proofs.HistoryCalls.{ones, still, frames512, quiet, answerTo, calls}
 use Rattle.history.proofs.Laws.{answer-says}
 use Rattle.history.proofs.Relay.{frames-frame, after-end}
+use Rattle.history.proofs.Restraint as restraint
 use Rattle.history.proofs.Unique.{SameButRuns, SameAnswer, same-relay, same-frame}
 
 -- what they are shown by: accepted frames of code 512, under accepted settings
@@ -123,6 +125,12 @@ refuted d (ignoresEnable wrong) meets = ignores-enable d meets wrong
 refuted d (oneTooMany wrong) meets = one-too-many d meets wrong
 refuted d (refusesSettings settings ok wrong) meets = wrong (meets settings ok [] .made)
 refuted d (refusesReset settings ok past mask e wrong) meets = wrong (answer-says d meets settings ok past (reset mask) .0 e)
+refuted d (ignoresRestraint k h wrong) meets = restraint.ignores-restraint d meets k h wrong
+refuted d (notStrict k h wrong) meets = restraint.not-strict d meets k h wrong
+refuted d (thirdHarmonic k h wrong) meets = restraint.third-harmonic d meets k h wrong
+refuted d (keepsRun k h wrong) meets = restraint.keeps-run d meets k h wrong
+refuted d (restrainsLoss k h wrong) meets = restraint.restrains-loss d meets k h wrong
+refuted d (anothersRestraint k l h m ne wrong) meets = restraint.anothers-restraint d meets k h l m ne wrong
 
 -- ---- there are such relays: ours, with one thing changed in what accepted calls answer; a refused call answers as it should
 
@@ -213,7 +221,7 @@ either : (b : Bool) (a : FrameAnswer) → cond b a a ≡ a
 either true a = refl
 either false a = refl
 
--- one implementation of each kind
+-- one implementation of each of the first nine kinds; those of restraint are in RestraintOnes
 pub record WrongOnes : Type 0 where
   pub never-trips : Wrong muted
   pub unaltered-one : Wrong stuck

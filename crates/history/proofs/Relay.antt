@@ -2,6 +2,7 @@
 -- One step for a call at the end, by cases on its refusal; then every list. Rests on Channel and on the laws of the relay's definitions.
 use Prim.Native.Nat.{ℕ, suc, _<_}
 use native.Mathlib.Decide.{ℕ-discrete}
+use native.Mathlib.Omega.{arith}
 use mathlib.Core.Path.{_≡_, refl, sym, ap, _∙_}
 use mathlib.Core.Bool.{Bool, true, false, _&&_, cond}
 use mathlib.Core.List.{List, [], _∷_, _++_, append-nil, append-assoc}
@@ -10,8 +11,8 @@ use borrow.Author.Tests.{ne-eqb}
 use Rattle.relay.specs.declared.Settings.{Settings}
 use Rattle.relay.specs.declared.Relay.{Relay}
 use Rattle.frames.specs.Bits.{bitOf}
-use Rattle.relay.specs.Settings.{levelsOf}
-use Rattle.relay.specs.Channel.{clearedOf}
+use Rattle.relay.specs.Settings.{levelsOf, loss, over}
+use Rattle.relay.specs.Channel.{clearedOf, channelAfter}
 use Rattle.relay.specs.Sound.{soundOf}
 use Rattle.relay.specs.Relay.{channelAt, freshRelay, nextChannel, acceptedFrame, resetChannel, acceptedReset}
 use Rattle.relay.proofs.Laws.{fresh-is, fresh-sound, fresh-channel, frame-sound, frame-channel, reset-sound, reset-channel}
@@ -33,11 +34,11 @@ pub history-frame : (c : ℕ) (calls : List Call) (codes : Codes) (enable : ℕ)
     → channelHistory c (calls ++ (frame codes enable ∷ [])) ≡ channelHistory c calls ▷ sampled (inputOf c (codes .list) enable)
 history-frame c calls codes enable e = rw (history-end, e)
 
-history-reset : (c : ℕ) (calls : List Call) (mask : ℕ) → resetRefusedBy mask ≡ 0
+pub history-reset : (c : ℕ) (calls : List Call) (mask : ℕ) → resetRefusedBy mask ≡ 0
     → channelHistory c (calls ++ (reset mask ∷ [])) ≡ channelHistory c calls ++ cond (bitOf mask c) (cleared ∷ []) []
 history-reset c calls mask e = rw (history-end, e)
 
-history-refused : (c : ℕ) (calls : List Call) (call : Call) → ¬ (refusalOf call ≡ 0)
+pub history-refused : (c : ℕ) (calls : List Call) (call : Call) → ¬ (refusalOf call ≡ 0)
     → channelHistory c (calls ++ (call ∷ [])) ≡ channelHistory c calls
 history-refused c calls (frame codes enable) e =
     rw (history-end, ne-eqb (frameRefusedBy (codes .list) enable) 0 e) (append-nil (channelHistory c calls))
@@ -69,7 +70,7 @@ frames-frame calls codes enable e =
 module _ (settings : Settings) where
   -- channel c of the relay is as its own history of the calls says
   abbrev AtChannel : List Call → Relay → ℕ → Type 0
-  AtChannel calls r c = ChannelIs (levels settings c) (channelHistory c calls) (r .age) (r .slot) (channelAt r c)
+  AtChannel calls r c = ChannelIs (loss (levels settings c)) (over (levels settings c)) (channelHistory c calls) (r .age) (r .slot) (channelAt r c)
 
   pub record Is (calls : List Call) (r : Relay) : Type 0 where
     pub sound : soundOf r ≡ true
@@ -81,18 +82,20 @@ module _ (settings : Settings) where
   fresh-is-so ok =
       record {
         sound = fresh-sound settings (settings-sound settings ok);
-        channel = λ c h. rw (fresh-channel settings c h) (channel-fresh (levels settings c));
+        channel = λ c h. rw (fresh-channel settings c h)
+            (channel-fresh (loss (levels settings c)) (over (levels settings c)) (omega arith) (omega arith));
         kept = refl;
       }
 
   pub frame-is : (calls : List Call) (r : Relay) (codes : Codes) (enable : ℕ) → frameRefusedBy (codes .list) enable ≡ 0 → Is calls r
       → Is (calls ++ (frame codes enable ∷ [])) (acceptedFrame r (codes .list) enable .relay)
-  unfolding acceptedFrame nextChannel levelsOf
+  unfolding acceptedFrame nextChannel channelAfter levelsOf
   frame-is calls r codes enable e v =
       record {
         sound = frame-sound r (codes .list) enable (v .sound) (frame-codes (codes .list) enable e);
         channel = λ c h. rw (frame-channel r (codes .list) enable c h, history-frame c calls codes enable e, v .kept)
-            (channel-sampled (levels settings c) (channelHistory c calls) (r .age) (r .slot) (channelAt r c) (getD (codes .list) c 0)
+            (channel-sampled (loss (levels settings c)) (over (levels settings c)) (omega arith) (omega arith) (channelHistory c calls)
+            (r .age) (r .slot) (channelAt r c) (getD (codes .list) c 0)
             (bitOf enable c) (bitOf enable 6) (v .channel c h));
         kept = v .kept;
       }
@@ -108,9 +111,11 @@ module _ (settings : Settings) where
       }
     where
       named : (c : ℕ) (b : Bool) → AtChannel calls r c
-          → ChannelIs (levels settings c) (channelHistory c calls ++ cond b (cleared ∷ []) []) (r .age) (r .slot)
+          → ChannelIs (loss (levels settings c)) (over (levels settings c)) (channelHistory c calls ++ cond b (cleared ∷ []) []) (r .age) (r .slot)
           (cond b (clearedOf (channelAt r c)) (channelAt r c))
-      named c true w = channel-cleared (levels settings c) (channelHistory c calls) (r .age) (r .slot) (channelAt r c) w
+      named c true w =
+          channel-cleared (loss (levels settings c)) (over (levels settings c)) (omega arith) (omega arith) (channelHistory c calls)
+          (r .age) (r .slot) (channelAt r c) w
       named c false w = rw append-nil w
 
   refused-is : (calls : List Call) (r : Relay) (call : Call) → ¬ (refusalOf call ≡ 0) → Is calls r → Is (calls ++ (call ∷ [])) r

@@ -6,7 +6,8 @@ use mathlib.Core.Path.{_≡_, refl, ap, _∙_}
 use mathlib.Core.Logic.{_↔_, _⊎_, inl, inr, ⊎-elim}
 use mathlib.Core.Bool.{Bool, true, false, _&&_, _||_}
 use mathlib.Core.List.{List, [], _∷_, _++_}
-use lib.Dec.{T, leb, le→leb, leb→le, lt→ltb, ltb→lt}
+use lib.Dec.{T, leb, le→leb, leb→le, lt→ltb, ltb→lt, lit≤}
+use lib.IntN.{ℤ}
 use lib.ListN.{getD}
 use mir.Facts.{and-yes, yes-and}
 use Rattle.lists.proofs.Each.{length-table, getD-table}
@@ -19,13 +20,13 @@ use Rattle.relay.specs.declared.Channel.{Channel}
 use Rattle.relay.specs.declared.Settings.{Settings}
 use Rattle.relay.specs.declared.Relay.{Relay}
 use Rattle.relay.specs.declared.FrameAnswer.{FrameAnswer}
-use Rattle.relay.specs.Settings.{settled}
+use Rattle.relay.specs.Settings.{settled, loss, over}
 use Rattle.relay.specs.Channel.{windowAfter, channelAfter}
 use Rattle.relay.specs.Relay.{channelAt, freshOf, counted, nextChannel, amplitudeIn, outputIn, acceptedFrame, frameOf, acceptedReset}
 use Rattle.relay.proofs.Laws.{nextOf, fresh-accepted, fresh-is, frame-channel}
 use Rattle.history.specs.Calls.{Codes, Call, frame, reset, frameRefusedBy, acceptedFrames, theRelay}
 use Rattle.history.specs.History.{Input, sampled, inputOf, channelHistory, inputAt, windowOf, windowAt, Enabled}
-use Rattle.history.specs.Demand.{SurelyBelowDrop, PossiblyBelowDrop, SurelyOverPickup, PossiblyOverPickup, LossMargins, OverMargins}
+use Rattle.history.specs.Demand.{harmonicTest, SurelyBelowDrop, PossiblyBelowDrop, SurelyOver, PossiblyOver, LossMargins, OverMargins}
 use Rattle.history.specs.Demand.{levels, lossOf, overOf, LossOn, OverOn, relayAfter, lossAfter, overAfter, RelayIs}
 use Rattle.history.specs.Demand.{FrameAnswered, CallAnswered, Demand3, AcceptedSettings, Demanded}
 use Rattle.history.proofs.Accepted.{frame-accepted, frame-refused, reset-accepted, reset-refused, settings-sound, settings-accepted}
@@ -55,8 +56,8 @@ module _ (settings : Settings) (ok : AcceptedSettings settings) where
         age = v .channel 0 (omega arith) .aged ∙ ap (min settled) (frames-same 0 calls);
         slot = v .channel 0 (omega arith) .placed ∙ ap (λ (n : ℕ). n % 8) (frames-same 0 calls);
         samples = λ c h. v .channel c h .samples ∙ ap (windowOf (channelHistory c calls)) (frames-same c calls);
-        lossLatch = λ c h. loss-rule (v .channel c h);
-        overLatch = λ c h. over-rule (v .channel c h);
+        lossLatch = λ c h. loss-rule _ _ (omega arith) (omega arith) (v .channel c h);
+        overLatch = λ c h. over-rule _ _ (omega arith) (omega arith) (v .channel c h);
         kept = v .kept;
       }
 
@@ -82,7 +83,8 @@ module _ (settings : Settings) (ok : AcceptedSettings settings) where
     abbrev next : ℕ → Channel
     next c = nextOf (relay past) (codes .list) enable c
 
-    next-is : (c : ℕ) → c < 6 → ChannelIs (levels settings c) (channelHistory c calls) (answer .relay .age) (answer .relay .slot) (next c)
+    next-is : (c : ℕ) → c < 6
+        → ChannelIs (loss (levels settings c)) (over (levels settings c)) (channelHistory c calls) (answer .relay .age) (answer .relay .slot) (next c)
     next-is c h =
         rw (frame-channel (relay past) (codes .list) enable c h) at (frame-is settings past (relay past) codes enable taken (is past) .channel c h)
 
@@ -91,9 +93,9 @@ module _ (settings : Settings) (ok : AcceptedSettings settings) where
     unfolding nextChannel channelAfter
     window-is c h = next-is c h .samples ∙ ap (windowOf (channelHistory c calls)) (frames-same c calls ∙ frames-frame past codes enable taken)
 
-    amplitude-is : (c : ℕ) → c < 6 → getD (answer .amplitudes) c 0 ≡ amplitudeOf (windowAt (channelHistory c calls) (acceptedFrames past))
+    amplitude-is : (c : ℕ) → c < 6 → getD (answer .amplitudes) c 0 ≡ amplitudeOf 1 (windowAt (channelHistory c calls) (acceptedFrames past))
     unfolding acceptedFrame amplitudeIn
-    amplitude-is c h = getD-table 6 (amplitudeIn (relay past .slot) (codes .list) (relay past .channels)) 0 c h ∙ ap amplitudeOf (window-is c h)
+    amplitude-is c h = getD-table 6 (amplitudeIn (relay past .slot) (codes .list) (relay past .channels)) 0 c h ∙ ap (amplitudeOf 1) (window-is c h)
 
     -- the output, before it is made a byte
     abbrev bits : ℕ → Bool
@@ -104,7 +106,8 @@ module _ (settings : Settings) (ok : AcceptedSettings settings) where
     unfolding acceptedFrame outputIn
     output-is c h =
         rw (input-is c, bit-bits 6 bits c h)
-        (output-rule (next c .«loss_latch») (next c .«over_latch») (enabledIn enable c) (loss-rule (next-is c h)) (over-rule (next-is c h)))
+        (output-rule (next c .«loss_latch») (next c .«over_latch») (enabledIn enable c) (loss-rule _ _ (omega arith) (omega arith) (next-is c h))
+        (over-rule _ _ (omega arith) (omega arith) (next-is c h)))
 
     -- the clauses on Z
     sound : (c : ℕ) → c < 6 → (n : ℕ) → windowSound (windowAt (channelHistory c past ▷ sampled (input c)) n) ≡ true
@@ -115,17 +118,23 @@ module _ (settings : Settings) (ok : AcceptedSettings settings) where
         let drop : ℕ = levels settings c .drop in
         rw (history c)
         (margins (lossOf settings c) (channelHistory c past) (input c) (omega arith) (SurelyBelowDrop drop) (PossiblyBelowDrop drop)
-        (λ n z. lt→ltb _ drop (loss-clear _ (sound c h n) drop z)) (λ n t. loss-near _ (sound c h n) drop (ltb→lt _ drop t))
-        (is past .channel c h .lossRun) (rw (history c) at (loss-rule (is calls .channel c h))))
+        (λ n z. lt→ltb _ drop (loss-clear 1 (lit≤ tt) (lit≤ tt) _ (sound c h n) drop z))
+        (λ n t. loss-near 1 (lit≤ tt) (lit≤ tt) _ (sound c h n) drop (ltb→lt _ drop t))
+        (is past .channel c h .lossRun) (rw (history c) at (loss-rule _ _ (omega arith) (omega arith) (is calls .channel c h))))
 
     over-margins : (c : ℕ) → 3 ≤ c → c < 6 → OverMargins settings c calls (overAfter theRelay settings past c) (overAfter theRelay settings calls c)
     over-margins c current h =
         let pickup : ℕ = levels settings c .pickup in
+        let r : ℕ = levels settings c .restraint in
+        let window : ℕ → List ℤ = λ n. windowAt (channelHistory c past ▷ sampled (input c)) n in
         rw (history c)
-        (margins (overOf settings c) (channelHistory c past) (input c) (omega arith) (SurelyOverPickup pickup) (PossiblyOverPickup pickup)
-        (λ n z. yes-and (leb 3 c) _ (le→leb 3 c current) (le→leb pickup _ (over-clear _ (sound c h n) pickup z)))
-        (λ n t. over-near _ (sound c h n) pickup (leb→le pickup _ (and-yes (leb 3 c) _ t .1)))
-        (is past .channel c h .overRun) (rw (history c) at (over-rule (is calls .channel c h))))
+        (margins (overOf settings c) (channelHistory c past) (input c) (omega arith) (SurelyOver pickup r) (PossiblyOver pickup r)
+        (λ n z. yes-and (leb 3 c) _ (le→leb 3 c current)
+        (yes-and (leb pickup (amplitudeOf 1 (window n))) (harmonicTest r (window n))
+        (le→leb pickup _ (over-clear 1 (lit≤ tt) (lit≤ tt) _ (sound c h n) pickup (z .0))) (z .1)))
+        (λ n t. let met = and-yes (leb pickup (amplitudeOf 1 (window n))) (harmonicTest r (window n)) (and-yes (leb 3 c) _ t .1) in
+        (over-near 1 (lit≤ tt) (lit≤ tt) _ (sound c h n) pickup (leb→le pickup _ (met .0)), met .1))
+        (is past .channel c h .overRun) (rw (history c) at (over-rule _ _ (omega arith) (omega arith) (is calls .channel c h))))
 
     frame-answered : FrameAnswered theRelay settings past calls (frameOf (relay past) (codes .list) enable)
     unfolding acceptedFrame
@@ -135,8 +144,8 @@ module _ (settings : Settings) (ok : AcceptedSettings settings) where
           refusal = refl;
           six = length-table 6 (amplitudeIn (relay past .slot) (codes .list) (relay past .channels));
           amplitude = amplitude-is;
-          within = λ c h. rw (amplitude-is c h) (accurate _ (window-sound c h calls (suc (acceptedFrames past))) .1);
-          bounded = λ c h. rw (amplitude-is c h) (accurate _ (window-sound c h calls (suc (acceptedFrames past))) .0);
+          within = λ c h. rw (amplitude-is c h) (accurate 1 (lit≤ tt) (lit≤ tt) _ (window-sound c h calls (suc (acceptedFrames past))) .1);
+          bounded = λ c h. rw (amplitude-is c h) (accurate 1 (lit≤ tt) (lit≤ tt) _ (window-sound c h calls (suc (acceptedFrames past))) .0);
           output = output-is;
           sixBits = bits-lt 6 bits;
           lossMargins = loss-margins;

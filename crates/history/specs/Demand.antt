@@ -1,16 +1,16 @@
 -- Demand 3 of document 01: one claim about every list of frames and resets, refused ones among them, from a fresh
 -- relay. It is stated for any implementation; `Demanded theRelay` is the theorem.
--- Levels, lengths and tests are said here anew, from the settings as handed in, with 16, 4, 72 and 10,700 as document
--- 01's own numbers and not by the relay's names. Said through the relay's definitions, the demand would be met by a
--- relay that reads another channel's level, or has another limit or length of a run, in definition and code alike.
+-- Levels, lengths and tests are said here anew, from the settings as handed in, with 16, 4, 72, 10,700 and 100 as the
+-- documents' own numbers and not by the relay's names. Said through the relay's definitions, the demand would be met by
+-- a relay that reads another channel's level, or has another limit or length of a run, in definition and code alike.
 -- Rests on the history read from the calls and on the exact amplitude.
-use Prim.Native.Nat.{ℕ, _+_, _-_, _%_, _≤_, _<_, min}
+use Prim.Native.Nat.{ℕ, _+_, _-_, _*_, _%_, _≤_, _<_, min}
 use mathlib.Core.Path.{_≡_}
 use mathlib.Core.Logic.{_⊎_, _↔_}
-use mathlib.Core.Bool.{Bool, true, _&&_, cond}
+use mathlib.Core.Bool.{Bool, true, _&&_, _||_, cond}
 use mathlib.Core.List.{List, [], _∷_, _++_}
 use lib.IntN.{ℤ, pos, _+ℤ_, _-ℤ_}
-use lib.Dec.{T, ltb, leb}
+use lib.Dec.{T, ltb, leb, eqb}
 use lib.ListN.{length, getD, replicate}
 use Rattle.frames.specs.Bits.{bitOf}
 use Rattle.phasor.specs.Cordic.{amplitudeOf}
@@ -27,18 +27,31 @@ use Rattle.history.specs.Calls.{Call, frame, reset, refusalOf, acceptedF
 use Rattle.history.specs.History.{Event, channelHistory, frames, windowOf, windowAt}
 use Rattle.history.specs.History.{Enabled, InEach, FullRun, LatchOn}
 
+-- Document 02, Paper 8, the test of a frame of an over run: "r is 0 or 100 times the second-harmonic amplitude is less
+-- than r times the fundamental"
+abbrev pub harmonicTest : ℕ → List ℤ → Bool
+harmonicTest r w = eqb r 0 || ltb (100 * amplitudeOf 2 w) (r * amplitudeOf 1 w)
+
 -- the clauses on Z, for one window: Z < drop − 2, Z < drop + 2, Z ≥ pickup + 2, Z ≥ pickup − 2
 abbrev pub SurelyBelowDrop : ℕ → List ℤ → Type 0
-SurelyBelowDrop drop w = Below w (pos drop -ℤ pos 2)
+SurelyBelowDrop drop w = Below 1 w (pos drop -ℤ pos 2)
 
 abbrev pub PossiblyBelowDrop : ℕ → List ℤ → Type 0
-PossiblyBelowDrop drop w = Below w (pos drop +ℤ pos 2)
+PossiblyBelowDrop drop w = Below 1 w (pos drop +ℤ pos 2)
 
 abbrev pub SurelyOverPickup : ℕ → List ℤ → Type 0
-SurelyOverPickup pickup w = AtLeast w (pos pickup +ℤ pos 2)
+SurelyOverPickup pickup w = AtLeast 1 w (pos pickup +ℤ pos 2)
 
 abbrev pub PossiblyOverPickup : ℕ → List ℤ → Type 0
-PossiblyOverPickup pickup w = AtLeast w (pos pickup -ℤ pos 2)
+PossiblyOverPickup pickup w = AtLeast 1 w (pos pickup -ℤ pos 2)
+
+-- Paper 8: "the clear-margin clause has it as a further premise", with the r that the run ran under; and where an over
+-- latch went on, the run found there has the test in each frame
+abbrev pub SurelyOver : ℕ → ℕ → List ℤ → Type 0
+SurelyOver pickup r w = SurelyOverPickup pickup w × T (harmonicTest r w)
+
+abbrev pub PossiblyOver : ℕ → ℕ → List ℤ → Type 0
+PossiblyOver pickup r w = PossiblyOverPickup pickup w × T (harmonicTest r w)
 
 -- The clauses on Z at a frame, the latest of `es`: whether the latch `was` on before it, and is on `now`.
 pub record Margins (kind : Kind) (Surely Possibly : List ℤ → Type 0) (es : List Event) (was now : Bool) : Type 0 where
@@ -50,24 +63,30 @@ pub record Margins (kind : Kind) (Surely Possibly : List ℤ → Type 0) (es : L
       → (j : ℕ) × (j + kind .len ≡ frames es) × FullRun es (kind .len) j
       × InEach j (kind .len) (λ n. Possibly (windowAt es n))
 
--- A channel's levels, "a drop level for each channel and a pickup level for each current" (3, 4, 5), and what follows
--- from them for its two kinds of run; a voltage's over run never meets its level.
+-- A channel's levels, "a drop level for each channel and a pickup level for each current" (3, 4, 5), and Paper 8's
+-- "Each current gets a restraint level r", and what follows from them for its two kinds of run; a voltage's over run
+-- never meets its level.
 module _ (settings : Settings) (c : ℕ) where
   abbrev pub levels : ChannelLevels
   levels =
       record {
         drop = getD (settings .drop) c 0;
         pickup = cond (leb 3 c) (getD (settings .pickup) (c - 3) 0) 0;
+        restraint = cond (leb 3 c) (getD (settings .restraint) (c - 3) 0) 0;
         current = leb 3 c;
       }
 
   -- "16 (loss)" frames with "m < drop (loss)"
   abbrev pub lossOf : Kind
-  lossOf = record { len = 16; meets = λ w. ltb (amplitudeOf w) (levels .drop) }
+  lossOf = record { len = 16; meets = λ w. ltb (amplitudeOf 1 w) (levels .drop) }
 
-  -- "4 (over)" frames with "m ≥ pickup (over)"
+  -- "4 (over)" frames with "m ≥ pickup (over)"; "The history adds that test to a full over run" (Paper 8)
   abbrev pub overOf : Kind
-  overOf = record { len = 4; meets = λ w. levels .current && leb (levels .pickup) (amplitudeOf w) }
+  overOf =
+      record {
+        len = 4;
+        meets = λ w. levels .current && (leb (levels .pickup) (amplitudeOf 1 w) && harmonicTest (levels .restraint) w);
+      }
 
   -- after these calls the rule has the latch on
   abbrev pub LossOn : List Call → Type 0
@@ -83,7 +102,9 @@ module _ (settings : Settings) (c : ℕ) where
 
   abbrev pub OverMargins : List Call → Bool → Bool → Type 0
   OverMargins calls =
-      Margins overOf (SurelyOverPickup (levels .pickup)) (PossiblyOverPickup (levels .pickup)) (channelHistory c calls)
+      let pickup : ℕ = levels .pickup in
+      let r : ℕ = levels .restraint in
+      Margins overOf (SurelyOver pickup r) (PossiblyOver pickup r) (channelHistory c calls)
 
 module _ (d : Implementation) (settings : Settings) where
   -- the relay after a list of calls from the fresh one: "nothing alters the relay between two calls"
@@ -119,9 +140,9 @@ module _ (d : Implementation) (settings : Settings) where
     -- "Frame n answers the six m, each within 2 of Z"
     pub six : length (answer .amplitudes) ≡ 6
     pub amplitude : (c : ℕ) → c < 6
-        → getD (answer .amplitudes) c 0 ≡ amplitudeOf (windowAt (channelHistory c calls) (acceptedFrames past))
+        → getD (answer .amplitudes) c 0 ≡ amplitudeOf 1 (windowAt (channelHistory c calls) (acceptedFrames past))
     pub within : (c : ℕ) → c < 6
-        → Within (windowAt (channelHistory c calls) (acceptedFrames past)) (getD (answer .amplitudes) c 0)
+        → Within 1 (windowAt (channelHistory c calls) (acceptedFrames past)) (getD (answer .amplitudes) c 0)
     pub bounded : (c : ℕ) → c < 6 → getD (answer .amplitudes) c 0 ≤ 10700
     -- "bit c is 1 exactly when channel c has a latch on by this rule after frame n and is enabled in it"
     pub output : (c : ℕ) → c < 6
@@ -156,14 +177,16 @@ module _ (d : Implementation) (settings : Settings) where
     pub answers : (past : List Call) (call : Call) (rest : List Call) → calls ≡ past ++ (call ∷ rest)
         → CallAnswered past call
 
--- The settings that document 01 accepts: "a drop level for each channel and a pickup level for each current, 1 to
--- 10,700". A relay that refuses some of them does not meet the demand (`made`).
+-- The settings that the documents accept: "a drop level for each channel and a pickup level for each current, 1 to
+-- 10,700"; "a restraint level r, 1 to 100 or 0 for off". A relay that refuses some of them does not meet the demand
+-- (`made`).
 pub record AcceptedSettings (settings : Settings) : Type 0 where
   pub drops : (c : ℕ) → c < 6 → (1 ≤ getD (settings .drop) c 0) × (getD (settings .drop) c 0 ≤ 10700)
   pub pickups : (k : ℕ) → k < 3 → (1 ≤ getD (settings .pickup) k 0) × (getD (settings .pickup) k 0 ≤ 10700)
+  pub restraints : (k : ℕ) → k < 3 → getD (settings .restraint) k 0 ≤ 100
 
 -- Demand 3: "from a fresh relay made with accepted settings", every list, "the empty one too"; that making the relay
--- accepts them is part of it. The code's arrays hold six and three levels, and its bytes are below 256; the claim is
--- for any settings that hold at least these levels, and for any number in a byte's place.
+-- accepts them is part of it. The code's arrays hold six drops, three pickups and three restraints, and its bytes are
+-- below 256; the claim is for any settings that hold at least these, and for any number in a byte's place.
 abbrev pub Demanded : Implementation → Type 0
 Demanded d = (settings : Settings) → AcceptedSettings settings → (calls : List Call) → Demand3 d settings calls

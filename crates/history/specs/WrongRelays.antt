@@ -1,16 +1,23 @@
 -- Wrong relays: those that document 01 names under "What a promise says here", 3, two of its "Mistakes to keep out",
--- and three more. Each is said of any implementation by the one thing that it does wrong to calls that document 01
--- accepts, in lists from a relay made with accepted settings, whatever else it does. None meets demand 3. Rests on the
--- lists of calls.
-use Prim.Native.Nat.{ℕ, suc, _≤_, _<_}
+-- three more, and those that restrain wrongly (document 02, Paper 8). Each is said of any implementation by the one
+-- thing that it does wrong to calls that the documents accept, in lists from a relay made with accepted settings,
+-- whatever else it does. None meets demand 3. Rests on the lists of calls.
+use Prim.Native.Nat.{ℕ, suc, _+_, _*_, _≤_, _<_}
 use mathlib.Core.Path.{_≡_}
+use mathlib.Core.Bool.{Bool, _&&_, _||_}
 use mathlib.Core.List.{List, [], _∷_, _++_}
+use lib.IntN.{ℤ}
+use lib.Dec.{T, ltb, leb, eqb}
 use lib.ListN.{getD, replicate}
+use Rattle.phasor.specs.Cordic.{amplitudeOf}
 use Rattle.relay.specs.declared.Settings.{Settings}
 use Rattle.relay.specs.declared.Relay.{Relay}
+use Rattle.relay.specs.Settings.{Kind}
 use Rattle.relay.specs.Relay.{channelAt, amplitudeIn}
 use Rattle.history.specs.Calls.{Codes, Call, frame, reset, refusalOf, acceptedFrames, Implementation}
-use Rattle.history.specs.Demand.{relayAfter, AcceptedSettings}
+use Rattle.history.specs.History.{Event, channelHistory, frames, resets, resetsBefore, windowAt}
+use Rattle.history.specs.History.{InEach, FullRun, LatchOn}
+use Rattle.history.specs.Demand.{harmonicTest, relayAfter, lossAfter, overAfter, AcceptedSettings}
 
 -- P holds of each accepted frame in these lists: of the relay that it is given, its codes and its enable byte
 abbrev pub EachFrame : Implementation → (Relay → List ℕ → ℕ → Type 0) → Type 0
@@ -35,6 +42,60 @@ FixedLatches d =
     → (let r : Relay = relayAfter d settings (past ++ (frame one enableOne ∷ [])) in
     SameLatches (d .frame r (two .list) enableTwo .relay) r)
 
+-- The over latch of channel c goes on by another test than the demand's: where a full over run (document 01's term)
+-- that meets the test lies after the last reset that names the channel, the latch is on.
+abbrev pub TripsBy : Implementation → ℕ → (Settings → List ℤ → Bool) → Type 0
+TripsBy d c test =
+    (settings : Settings) → AcceptedSettings settings → (calls : List Call)
+    → LatchOn (record { len = 4; meets = test settings }) (channelHistory c calls) → T (overAfter d settings calls c)
+
+-- tests of current k's window, channel k + 3: Paper 8's test by its own r; m ≥ pickup alone; and with the test by the r
+-- of current l
+abbrev pub testedBy : ℕ → Settings → List ℤ → Bool
+testedBy k settings w = harmonicTest (getD (settings .restraint) k 0) w
+
+abbrev pub overPickup : ℕ → Settings → List ℤ → Bool
+overPickup k settings w = leb (getD (settings .pickup) k 0) (amplitudeOf 1 w)
+
+abbrev pub overBy : ℕ → ℕ → Settings → List ℤ → Bool
+overBy l k settings w = overPickup k settings w && testedBy l settings w
+
+-- with ≤ in place of <, and with the third harmonic in place of the second
+abbrev pub overAtMost : ℕ → Settings → List ℤ → Bool
+overAtMost k settings w =
+    let r : ℕ = getD (settings .restraint) k 0 in
+    overPickup k settings w && (eqb r 0 || leb (100 * amplitudeOf 2 w) (r * amplitudeOf 1 w))
+
+abbrev pub overByThird : ℕ → Settings → List ℤ → Bool
+overByThird k settings w =
+    let r : ℕ = getD (settings .restraint) k 0 in
+    overPickup k settings w && (eqb r 0 || ltb (100 * amplitudeOf 3 w) (r * amplitudeOf 1 w))
+
+-- Five successive frames that a full run could hold, the last frames after the last reset that names the channel; m ≥
+-- pickup in each, and all but the fourth have the test: the latch of current k is on after them, as if the fourth had
+-- left the run as it was.
+abbrev pub KeepsRun : Implementation → ℕ → Type 0
+KeepsRun d k =
+    (settings : Settings) → AcceptedSettings settings → (calls : List Call) (j : ℕ)
+    → (let es : List Event = channelHistory (k + 3) calls in
+    let fed : ℕ → Bool = λ n. overBy k k settings (windowAt es n) in
+    j + 5 ≡ frames es → FullRun es 5 j → resetsBefore es j ≡ resets es → InEach j 3 (λ n. T (fed n))
+    → T (overPickup k settings (windowAt es (j + 3))) → ¬ T (fed (j + 3)) → T (fed (j + 4))
+    → T (overAfter d settings calls (k + 3)))
+
+-- The loss latch of current k goes on only by a full run in each frame of which the test of restraint holds too.
+abbrev pub lossTested : Settings → ℕ → Kind
+lossTested settings k =
+    record {
+      len = 16;
+      meets = λ w. ltb (amplitudeOf 1 w) (getD (settings .drop) (k + 3) 0) && testedBy k settings w;
+    }
+
+abbrev pub RestrainsLoss : Implementation → ℕ → Type 0
+RestrainsLoss d k =
+    (settings : Settings) → AcceptedSettings settings → (calls : List Call) → T (lossAfter d settings calls (k + 3))
+    → LatchOn (lossTested settings k) (channelHistory (k + 3) calls)
+
 pub data Wrong (d : Implementation) : Type 0 where
   -- "a relay that never trips"
   neverTrips : EachFrame d (λ r codes enable. d .frame r codes enable .output ≡ 0) → Wrong d
@@ -53,8 +114,20 @@ pub data Wrong (d : Implementation) : Type 0 where
   -- m + 1 in place of each m: close to Z, and yet not "the six m"
   oneTooMany : EachFrame d (λ r codes enable. (c : ℕ) → c < 6
       → getD (d .frame r codes enable .amplitudes) c 0 ≡ suc (amplitudeIn (r .slot) codes (r .channels) c)) → Wrong d
-  -- some settings that document 01 accepts are refused: all of them, or drop levels above 8,192
+  -- some settings that the documents accept are refused: all of them, or drop levels above 8,192
   refusesSettings : (settings : Settings) → AcceptedSettings settings → ¬ (d .fresh settings .refusal ≡ 0) → Wrong d
   -- some reset that document 01 accepts is refused, as one that names channel 5
   refusesReset : (settings : Settings) → AcceptedSettings settings → (past : List Call) (mask : ℕ)
       → refusalOf (reset mask) ≡ 0 → ¬ (d .reset (relayAfter d settings past) mask .refusal ≡ 0) → Wrong d
+  -- restraint ignored, in some current
+  ignoresRestraint : (k : ℕ) → k < 3 → TripsBy d (k + 3) (overPickup k) → Wrong d
+  -- "≤" in place of "less than"
+  notStrict : (k : ℕ) → k < 3 → TripsBy d (k + 3) (overAtMost k) → Wrong d
+  -- the third harmonic in place of the second
+  thirdHarmonic : (k : ℕ) → k < 3 → TripsBy d (k + 3) (overByThird k) → Wrong d
+  -- a restrained frame leaves the run as it was
+  keepsRun : (k : ℕ) → k < 3 → KeepsRun d k → Wrong d
+  -- the loss run restrained too
+  restrainsLoss : (k : ℕ) → k < 3 → RestrainsLoss d k → Wrong d
+  -- current k takes the r of another current, l
+  anothersRestraint : (k l : ℕ) → k < 3 → l < 3 → ¬ (l ≡ k) → TripsBy d (k + 3) (overBy l k) → Wrong d

@@ -1,5 +1,6 @@
 -- Calls of the definitions, computed: each rule of specs/ at the places where a slip would show, beside the starred figures (Figures).
--- A definition and its code that are changed alike are judged by them. Rests on the definitions, and takes windows from Figures.
+-- A definition and its code that are changed alike are judged by them. Harmonics and the estimate are in OrderCalls. Rests on the definitions, and
+-- takes windows from Figures.
 use Prim.Native.Nat.{ℕ}
 use mathlib.Core.Path.{_≡_, refl, sym, subst}
 use mathlib.Core.Bool.{true, false}
@@ -24,21 +25,21 @@ use Rattle.phasor.proofs.Computed.{computed}
 use Rattle.phasor.proofs.Figures.{zeros, inSlot0}
 
 -- a window of zeros but for slot k
-abbrev only : ℕ → ℤ → List ℤ
+abbrev pub only : ℕ → ℤ → List ℤ
 only k s = set zeros k s
 
 -- two windows in which each slot counts, and each digit of each weight: Re > 0, Im < 0 and |Re| > |Im|; Re < 0, Im < 0 and |Re| < |Im|
-abbrev uneven : List ℤ
+abbrev pub uneven : List ℤ
 uneven = pos 412 ∷ negℤ (pos 307) ∷ pos 198 ∷ pos 57 ∷ negℤ (pos 511) ∷ pos 233 ∷ negℤ (pos 78) ∷ pos 349 ∷ []
 
-abbrev negative : List ℤ
+abbrev pub negative : List ℤ
 negative = negℤ (pos 301) ∷ negℤ (pos 389) ∷ negℤ (pos 467) ∷ negℤ (pos 60) ∷ pos 257 ∷ pos 211 ∷ pos 350 ∷ pos 12 ∷ []
 
 -- a window of the largest amplitude
-abbrev largest : List ℤ
+abbrev pub largest : List ℤ
 largest = pos 511 ∷ pos 511 ∷ pos 511 ∷ negℤ (pos 512) ∷ negℤ (pos 512) ∷ negℤ (pos 512) ∷ negℤ (pos 512) ∷ pos 511 ∷ []
 
-abbrev point : ℤ → ℤ → Point
+abbrev pub point : ℤ → ℤ → Point
 point x y = record { x = x; y = y }
 
 -- ---- from codes to amplitude
@@ -51,15 +52,15 @@ pub record AmplitudeCalls : Type 0 where
   pub missing : sampleAt (pos 3 ∷ []) 1 ≡ pos 0
   pub ninth : windowSound (zeros ++ (pos 512 ∷ [])) ≡ true
   -- each weight alone, and all together
-  pub re-units : table 8 (λ k. re (only k (pos 1)))
+  pub re-units : table 8 (λ k. re 1 (only k (pos 1)))
       ≡ pos 16384 ∷ pos 11585 ∷ pos 0 ∷ negℤ (pos 11585) ∷ negℤ (pos 16384) ∷ negℤ (pos 11585) ∷ pos 0 ∷ pos 11585 ∷ []
-  pub im-units : table 8 (λ k. im (only k (pos 1)))
+  pub im-units : table 8 (λ k. im 1 (only k (pos 1)))
       ≡ pos 0 ∷ pos 11585 ∷ pos 16384 ∷ pos 11585 ∷ pos 0 ∷ negℤ (pos 11585) ∷ negℤ (pos 16384) ∷ negℤ (pos 11585) ∷ []
-  pub re-uneven : re uneven ≡ pos 12249352
-  pub im-uneven : im uneven ≡ negℤ (pos 5116736)
+  pub re-uneven : re 1 uneven ≡ pos 12249352
+  pub im-uneven : im 1 uneven ≡ negℤ (pos 5116736)
   -- |Re| and |Im|, each in its place
-  pub start-uneven : startOf uneven ≡ point (pos 12249352) (pos 5116736)
-  pub start-negative : startOf negative ≡ point (pos 15259152) (pos 21170848)
+  pub start-uneven : startOf 1 uneven ≡ point (pos 12249352) (pos 5116736)
+  pub start-negative : startOf 1 negative ≡ point (pos 15259152) (pos 21170848)
   -- y > 0, y = 0 and y < 0, with odd numbers: the shift rounds down, and "Both new values use the old ones"
   pub step-above : stepAt 1 (point (pos 7) (pos 5)) ≡ point (pos 9) (pos 2)
   pub step-level : stepAt 0 (point (pos 5) (pos 0)) ≡ point (pos 5) (negℤ (pos 5))
@@ -81,13 +82,13 @@ pub record AmplitudeCalls : Type 0 where
       ∷ 7577986 ∷ 7590082 ∷ 7596130 ∷ 7599154 ∷ 7600666 ∷ 7601422 ∷ 7601800 ∷ [])
   -- steps 0, 1, 2 in this order; all sixteen
   pub three-steps : steps 3 (point (pos 101) (pos 37)) ≡ point (pos 171) (negℤ (pos 37))
-  pub x-uneven : lastX uneven ≡ pos 21860871
-  pub x-negative : lastX negative ≡ pos 42975287
+  pub x-uneven : lastX 1 uneven ≡ pos 21860871
+  pub x-negative : lastX 1 negative ≡ pos 42975287
   -- rounded down: 0.99998, 1.0001 and 11727.0004, which a gain one more or one less would miss; 3240.99, 6371.3 and 10692.8
   pub scaled : map scaledOf (pos 6745 ∷ pos 6746 ∷ pos 79100000 ∷ []) ≡ 0 ∷ 1 ∷ 11727 ∷ []
-  pub m-uneven : amplitudeOf uneven ≡ 3240
-  pub m-negative : amplitudeOf negative ≡ 6371
-  pub m-largest : amplitudeOf largest ≡ 10692
+  pub m-uneven : amplitudeOf 1 uneven ≡ 3240
+  pub m-negative : amplitudeOf 1 negative ≡ 6371
+  pub m-largest : amplitudeOf 1 largest ≡ 10692
 
 pub calls : AmplitudeCalls
 unfolding computed
@@ -140,31 +141,31 @@ pub record ExactCalls : Type 0 where
   pub both-negative : ¬ Rule (negℤ (pos 5)) (negℤ (pos 1))
   pub both-negative′ : ¬ Rule (negℤ (pos 1)) (negℤ (pos 5))
   -- Z = 400: at equality and next to it, and "Within 2" at its ends
-  pub least-400 : AtLeast inSlot0 (pos 400)
-  pub below-401 : Below inSlot0 (pos 401)
-  pub most-400 : AtMost inSlot0 (pos 400)
-  pub not-most-399 : ¬ AtMost inSlot0 (pos 399)
-  pub within-398 : Within inSlot0 398
-  pub within-402 : Within inSlot0 402
-  pub not-within-397 : ¬ Within inSlot0 397
-  pub not-within-403 : ¬ Within inSlot0 403
+  pub least-400 : AtLeast 1 inSlot0 (pos 400)
+  pub below-401 : Below 1 inSlot0 (pos 401)
+  pub most-400 : AtMost 1 inSlot0 (pos 400)
+  pub not-most-399 : ¬ AtMost 1 inSlot0 (pos 399)
+  pub within-398 : Within 1 inSlot0 398
+  pub within-402 : Within 1 inSlot0 402
+  pub not-within-397 : ¬ Within 1 inSlot0 397
+  pub not-within-403 : ¬ Within 1 inSlot0 403
   -- Z = 3240.99 with Q < 0, and Z = 6371.4 with Q > 0: each of A, B, C and D counts
-  pub least-3240 : AtLeast uneven (pos 3240)
-  pub below-3241 : Below uneven (pos 3241)
-  pub most-3241 : AtMost uneven (pos 3241)
-  pub not-most-3240 : ¬ AtMost uneven (pos 3240)
-  pub least-6371 : AtLeast negative (pos 6371)
-  pub below-6372 : Below negative (pos 6372)
+  pub least-3240 : AtLeast 1 uneven (pos 3240)
+  pub below-3241 : Below 1 uneven (pos 3241)
+  pub most-3241 : AtMost 1 uneven (pos 3241)
+  pub not-most-3240 : ¬ AtMost 1 uneven (pos 3240)
+  pub least-6371 : AtLeast 1 negative (pos 6371)
+  pub below-6372 : Below 1 negative (pos 6372)
   -- t = 0 and 1, and t < 0: "Z ≥ t always holds and Z ≤ t never does"
-  pub least-0 : AtLeast zeros (pos 0)
-  pub below-1 : Below zeros (pos 1)
-  pub most-0 : AtMost zeros (pos 0)
-  pub least-minus : AtLeast zeros (negℤ (pos 1))
-  pub not-most-minus : ¬ AtMost zeros (negℤ (pos 1))
-  pub within-0 : Within zeros 0
+  pub least-0 : AtLeast 1 zeros (pos 0)
+  pub below-1 : Below 1 zeros (pos 1)
+  pub most-0 : AtMost 1 zeros (pos 0)
+  pub least-minus : AtLeast 1 zeros (negℤ (pos 1))
+  pub not-most-minus : ¬ AtMost 1 zeros (negℤ (pos 1))
+  pub within-0 : Within 1 zeros 0
 
 -- the rule fails where each of its three lines does
-fails : {r q : ℤ} → (T (leZ (pos 0) r) → ¬ T (leZ (pos 0) q))
+pub fails : {r q : ℤ} → (T (leZ (pos 0) r) → ¬ T (leZ (pos 0) q))
     → (T (leZ (pos 0) r) → T (ltZ q (pos 0)) → ¬ T (leZ (pos 2 *ℤ (q *ℤ q)) (r *ℤ r)))
     → (T (ltZ r (pos 0)) → T (ltZ (pos 0) q) → ¬ T (leZ (r *ℤ r) (pos 2 *ℤ (q *ℤ q)))) → ¬ Rule r q
 fails a b c (both h k) = a (h .le) (k .le)
@@ -172,7 +173,7 @@ fails a b c (larger-r h k l) = b (h .le) (k .lt) (l .le)
 fails a b c (larger-q h k l) = c (h .lt) (k .lt) (l .le)
 
 pub exact : ExactCalls
-unfolding AtLeast AtMost
+unfolding computed
 exact =
     record {
       parts = refl;

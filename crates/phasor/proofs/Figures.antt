@@ -27,13 +27,13 @@ abbrev pub inSlot1 : List ℤ
 inSlot1 = pos 0 ∷ pos 100 ∷ replicate 6 (pos 0)
 
 pub record Figures : Type 0 where
-  pub x-slot1 : lastX inSlot1 ≡ pos 2697998
-  pub x-slot0 : lastX inSlot0 ≡ pos 2698056
-  pub m-slot0 : amplitudeOf inSlot0 ≡ 400
-  pub m-slot1 : amplitudeOf inSlot1 ≡ 399
-  pub m-zeros : amplitudeOf zeros ≡ 0
-  pub m-hundreds : amplitudeOf hundreds ≡ 0
-  pub m-wave : amplitudeOf wave ≡ 1603
+  pub x-slot1 : lastX 1 inSlot1 ≡ pos 2697998
+  pub x-slot0 : lastX 1 inSlot0 ≡ pos 2698056
+  pub m-slot0 : amplitudeOf 1 inSlot0 ≡ 400
+  pub m-slot1 : amplitudeOf 1 inSlot1 ≡ 399
+  pub m-zeros : amplitudeOf 1 zeros ≡ 0
+  pub m-hundreds : amplitudeOf 1 hundreds ≡ 0
+  pub m-wave : amplitudeOf 1 wave ≡ 1603
 
 pub figures : Figures
 unfolding computed

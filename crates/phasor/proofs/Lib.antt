@@ -1,6 +1,7 @@
 pub mod Computed
 pub mod Figures
 pub mod Calls
+pub mod OrderCalls
 pub mod Samples
 pub mod Weights
 pub mod Rule

@@ -6,6 +6,7 @@ use mathlib.Core.Bool.{cond}
 use mathlib.Core.List.{List}
 use lib.IntN.{ℤ, pos, natAbs, _+ℤ_, _-ℤ_, _*ℤ_}
 use lib.Signed.{shrZ, leZ}
+use lib.Dec.{eqb}
 use Rattle.phasor.specs.declared.Point.{Point}
 use Rattle.phasor.specs.Fourier.{re, im}
 
@@ -30,22 +31,22 @@ steps (suc k) p = stepAt k (steps k p)
 abbrev pub endOf : Point → ℤ
 endOf p = steps 16 p .x
 
--- a window's point of start, and its x as it ends
-unfoldable pub startOf : List ℤ → Point
-startOf w = startAt (re w) (im w)
+-- a window's point of start for an order, and its x as it ends
+unfoldable pub startOf : ℕ → List ℤ → Point
+startOf p w = startAt (re p w) (im p w)
 
-unfoldable pub lastX : List ℤ → ℤ
-lastX w = endOf (startOf w)
+unfoldable pub lastX : ℕ → List ℤ → ℤ
+lastX p w = endOf (startOf p w)
 
 -- "x times 39797, divided by 2^28, rounded down"; x is never negative (a law: proofs/Theorems), so the natural number
 -- is the quotient itself
 unfoldable pub scaledOf : ℤ → ℕ
 scaledOf x = natAbs (shrZ (x *ℤ pos 39797) (2 ^ 28))
 
--- "The amplitude m", in sixteenths of a code, peak
-unfoldable pub amplitudeOf : List ℤ → ℕ
-amplitudeOf w = scaledOf (lastX w)
+-- "The amplitude m", in sixteenths of a code, peak; "The estimate takes an order p of 1, 2 or 3" (document 02, Paper 8)
+unfoldable pub amplitudeOf : ℕ → List ℤ → ℕ
+amplitudeOf p w = scaledOf (lastX p w)
 
--- "It is never above 10,700": a law (proofs/Theorems)
-abbrev pub mostAmplitude : ℕ
-mostAmplitude = 10700
+-- "It is never above 10,700"; "For p = 2 the largest amplitude is below 11,600": laws (proofs/Theorems)
+abbrev pub mostAmplitude : ℕ → ℕ
+mostAmplitude p = cond (eqb p 2) 11599 10700

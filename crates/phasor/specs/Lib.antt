@@ -3,4 +3,5 @@ pub mod Fourier
 pub mod Cordic
 pub mod Exact
 pub mod Lanes
+pub mod Estimate
 pub mod Internal

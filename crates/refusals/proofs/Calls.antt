@@ -7,7 +7,7 @@ use Rattle.refusals.specs.Refusals as refusals
 use Rattle.refusals.specs.Refusals.{_orElse_, firstFault}
 use Rattle.refusals.specs.Outcomes.{outcomeOf}
 
--- Document 01's table, row by row.
+-- Document 01's table, row by row, and document 02's numbers.
 pub record Rows : Type 0 where
   pub accepted : refusals.accepted ≡ 0
   pub settings : refusals.badSetting ≡ 1
@@ -20,6 +20,9 @@ pub record Rows : Type 0 where
   pub room : refusals.doesNotFit ≡ 11
   pub shape : refusals.wrongShape ≡ 12
   pub few : refusals.fewFrames ≡ 13
+  -- Paper 8
+  pub estimate : refusals.badEstimate ≡ 19
+  pub restraint : refusals.badRestraint ≡ 20
 
 pub rows : Rows
 rows =
@@ -35,11 +38,13 @@ rows =
       room = refl;
       shape = refl;
       few = refl;
+      estimate = refl;
+      restraint = refl;
     }
 
--- the numbers of the table's thirteen refusals
-abbrev thirteen : List ℕ
-thirteen = 1 ∷ 2 ∷ 3 ∷ 4 ∷ 5 ∷ 6 ∷ 7 ∷ 8 ∷ 9 ∷ 10 ∷ 11 ∷ 12 ∷ 13 ∷ []
+-- the numbers of the refusals
+abbrev all : List ℕ
+all = 1 ∷ 2 ∷ 3 ∷ 4 ∷ 5 ∷ 6 ∷ 7 ∷ 8 ∷ 9 ∷ 10 ∷ 11 ∷ 12 ∷ 13 ∷ 19 ∷ 20 ∷ []
 
 -- "first check that fails": none, one, each order of two, the last of three, and each number alone; an outcome accepted and refused, with room to
 -- spare.
@@ -49,11 +54,11 @@ pub record FirstFaults : Type 0 where
   pub second : firstFault ((true orElse 7) ∷ (false orElse 3) ∷ []) ≡ 3
   pub both : (firstFault ((false orElse 7) ∷ (false orElse 3) ∷ []) ≡ 7) × (firstFault ((false orElse 3) ∷ (false orElse 7) ∷ []) ≡ 3)
   pub third : firstFault ((true orElse 2) ∷ (true orElse 3) ∷ (false orElse 4) ∷ []) ≡ 4
-  pub each : map (λ k. firstFault ((true orElse 1) ∷ (false orElse k) ∷ [])) thirteen ≡ thirteen
+  pub each : map (λ k. firstFault ((true orElse 1) ∷ (false orElse k) ∷ [])) all ≡ all
   pub taken : outcomeOf 0 5 (10 ∷ 20 ∷ []) (1 ∷ 2 ∷ 3 ∷ []) ≡ record { refusal = 0; count = 5; buffer = 10 ∷ 20 ∷ 3 ∷ [] }
   pub refused : outcomeOf 11 5 (10 ∷ 20 ∷ []) (1 ∷ 2 ∷ 3 ∷ []) ≡ record { refusal = 11; count = 0; buffer = 1 ∷ 2 ∷ 3 ∷ [] }
-  pub each-refused : map (λ k. outcomeOf k 5 (10 ∷ 20 ∷ []) (1 ∷ 2 ∷ 3 ∷ [])) thirteen
-      ≡ map (λ k. record { refusal = k; count = 0; buffer = 1 ∷ 2 ∷ 3 ∷ [] }) thirteen
+  pub each-refused : map (λ k. outcomeOf k 5 (10 ∷ 20 ∷ []) (1 ∷ 2 ∷ 3 ∷ [])) all
+      ≡ map (λ k. record { refusal = k; count = 0; buffer = 1 ∷ 2 ∷ 3 ∷ [] }) all
 
 pub first-faults : FirstFaults
 first-faults =

@@ -1,5 +1,5 @@
--- Document 01, "Refusals": the thirteen rows of its table, and how a list of checks gives one of their numbers.
--- Rests on nothing.
+-- Document 01, "Refusals": the thirteen rows of its table, those of document 02 that have landed, and how a list of
+-- checks gives one of their numbers. Rests on nothing.
 use Prim.Native.Nat.{ℕ}
 use mathlib.Core.Bool.{Bool, cond}
 use mathlib.Core.List.{List, [], _∷_}
@@ -46,6 +46,13 @@ wrongShape = 12
 
 abbrev pub fewFrames : ℕ  -- "fewer than eight frames"
 fewFrames = 13
+
+-- Document 02, Paper 8.
+abbrev pub badEstimate : ℕ  -- "19 for an order outside 1 to 3 or a window sample outside −512 to 511"
+badEstimate = 19
+
+abbrev pub badRestraint : ℕ  -- "20 for r above 100"
+badRestraint = 20
 
 -- A check: what must hold, and the number of the refusal where it does not.
 infix 20 _orElse_

@@ -1,4 +1,5 @@
-// The numbers of the refusals (document 01, "Refusals"), each once, and the answer of a call that was lent a buffer.
+// The numbers of the refusals (document 01, "Refusals", and those of document 02 that have landed), each once, and the
+// answer of a call that was lent a buffer.
 // No entry point stands here.
 ghost use mathlib.Core.Path.{_≡_};
 
@@ -43,6 +44,12 @@ pub const WRONG_SHAPE: u8 = 12;
 
 // Fewer than eight frames.
 pub const FEW_FRAMES: u8 = 13;
+
+// An order outside 1 to 3, or a window sample outside -512 to 511 (Paper 8).
+pub const BAD_ESTIMATE: u8 = 19;
+
+// A restraint level above 100 (Paper 8).
+pub const BAD_RESTRAINT: u8 = 20;
 
 // What a call that was lent a buffer answers: the number of its refusal, 0 where it is accepted, and how many frames or
 // bytes it made.

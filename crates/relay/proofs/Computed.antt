@@ -1,7 +1,7 @@
 -- One name for all that a computed call of the relay unfolds: `unfolding computed`. A new definition has its entry here alone.
 use Rattle.frames.proofs.Computed as frames
 use Rattle.phasor.proofs.Computed as phasor
-use Rattle.relay.specs.Settings.{dropsSound, pickupsSound, levelsOf}
+use Rattle.relay.specs.Settings.{dropsSound, pickupsSound, restraintsSound, levelsOf}
 use Rattle.relay.specs.Channel.{freshChannel, nextRun, channelAfter}
 use Rattle.relay.specs.Sound.{channelSound, channelsSound, soundOf}
 use Rattle.relay.specs.Relay.{freshRelay, zeroRelay, freshRefusal, freshOf}
@@ -9,7 +9,7 @@ use Rattle.relay.specs.Relay.{nextChannel, amplitudeIn, outputIn, accept
 use Rattle.relay.specs.Relay.{resetChannel, acceptedReset, refusedReset, maskRefusal, resetRefusal, resetOf}
 
 unfoldable pub computed : Unit {0}
-unfolding frames.computed phasor.computed dropsSound pickupsSound levelsOf freshChannel nextRun channelAfter channelSound channelsSound
-    soundOf freshRelay zeroRelay freshRefusal freshOf nextChannel amplitudeIn outputIn acceptedFrame refusedFrame inputRefusal frameRefusal
-    frameOf resetChannel acceptedReset refusedReset maskRefusal resetRefusal resetOf
+unfolding frames.computed phasor.computed dropsSound pickupsSound restraintsSound levelsOf freshChannel nextRun channelAfter channelSound
+    channelsSound soundOf freshRelay zeroRelay freshRefusal freshOf nextChannel amplitudeIn outputIn acceptedFrame refusedFrame inputRefusal
+    frameRefusal frameOf resetChannel acceptedReset refusedReset maskRefusal resetRefusal resetOf
 computed = tt

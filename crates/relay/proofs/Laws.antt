@@ -4,7 +4,7 @@ use Prim.Native.Nat.{ℕ, _+_, _≤_, _<_}
 use native.Mathlib.Omega.{arith}
 use mathlib.Core.Path.{_≡_, refl, _∙_}
 use mathlib.Core.Bool.{Bool, true, false, _&&_, _||_, not, cond, false≢true}
-use mathlib.Core.List.{List, [], _∷_}
+use mathlib.Core.List.{List}
 use lib.IntN.{ℤ}
 use lib.Dec.{leb, ltb, eqb}
 use lib.ListN.{getD, getD-replicate}
@@ -14,7 +14,7 @@ use Rattle.phasor.specs.Cordic.{amplitudeOf}
 use Rattle.phasor.specs.Window.{windowSound}
 use Rattle.phasor.proofs.Samples.{window-set}
 use Rattle.lists.proofs.Each.{and-true, and-left, and-right, getD-table}
-use Rattle.refusals.specs.Refusals.{_orElse_, firstFault, accepted, badSetting}
+use Rattle.refusals.specs.Refusals.{accepted}
 use Rattle.frames.specs.Codes.{codeLimit, sampleOf, codesInRange}
 use Rattle.frames.proofs.Ranges.{codes-below}
 use Rattle.frames.proofs.Samples.{sample-is-sound}
@@ -24,7 +24,8 @@ use Rattle.relay.specs.declared.Settings.{Settings}
 use Rattle.relay.specs.declared.Relay.{Relay}
 use Rattle.relay.specs.declared.FreshAnswer.{FreshAnswer}
 use Rattle.frames.specs.Bits.{bitOf, enabledIn}
-use Rattle.relay.specs.Settings.{isCurrent, settingsSound, levelsOf, lossFrames, overFrames, settled, loss}
+use Rattle.relay.specs.Settings.{isCurrent, levelsSound, restraintsSound, settingsSound, levelsOf, unrestrainedBy}
+use Rattle.relay.specs.Settings.{lossFrames, overFrames, settled, loss}
 use Rattle.relay.specs.Channel.{noChannel, freshChannel, clearedOf, windowAfter, runAfter, nextRun, channelAfter}
 use Rattle.relay.proofs.Sound.{Sound, sound-says, says-sound}
 use Rattle.relay.specs.Sound.{overSound, channelSound, channelsSound, soundOf}
@@ -35,20 +36,29 @@ use Rattle.relay.specs.Relay.{resetChannel, acceptedReset, refusedReset,
 -- ---- what a call's answer is
 
 -- settings that are accepted are in range, and the answer is the fresh relay
+two-checks : (a b : Bool) → _≡_ {A = ℕ} (cond a (cond b 0 20) 1) 0 → a && b ≡ true
+two-checks true true e = refl
+two-checks true false e = absurd (omega arith)
+two-checks false b e = absurd (omega arith)
+
+-- an answer is that of an accepted call only where the refusal is 0
+not-refused : (r s : Relay) (n : ℕ)
+    → cond {A = FreshAnswer} (eqb n 0) (record { relay = r; refusal = 0 }) (record { relay = s; refusal = n }) .refusal ≡ 0 → n ≡ 0
+not-refused r s n e = by (eqb n 0) refl e
+  where
+    by : (b : Bool) → eqb n 0 ≡ b
+        → cond {A = FreshAnswer} b (record { relay = r; refusal = 0 }) (record { relay = s; refusal = n }) .refusal ≡ 0 → n ≡ 0
+    by true q e = eqb-true n 0 q
+    by false q e = e
+
 pub fresh-accepted : (s : Settings) → freshOf s .refusal ≡ accepted → settingsSound s ≡ true
 unfolding freshOf freshRefusal
-fresh-accepted s e = by (settingsSound s) e
-  where
-    by : (b : Bool)
-        → cond {A = FreshAnswer} (eqb (firstFault ((b orElse badSetting) ∷ [])) accepted) (record { relay = freshRelay s; refusal = accepted })
-        (record { relay = zeroRelay; refusal = firstFault ((b orElse badSetting) ∷ []) }) .refusal ≡ accepted
-        → b ≡ true
-    by true e = refl
-    by false e = absurd (omega arith)
+fresh-accepted s e =
+    two-checks (levelsSound s) (restraintsSound (s .restraint)) (not-refused (freshRelay s) zeroRelay (freshRefusal s) e)
 
 pub fresh-is : (s : Settings) → settingsSound s ≡ true → freshOf s ≡ record { relay = freshRelay s; refusal = accepted }
 unfolding freshOf freshRefusal
-fresh-is s e = rw e
+fresh-is s e = rw (and-left (levelsSound s) (restraintsSound (s .restraint)) e, and-right (levelsSound s) (restraintsSound (s .restraint)) e)
 
 -- on a sound relay codes, enable byte and mask alone decide
 pub frame-accepted : (r : Relay) (codes : List ℕ) (enable : ℕ) → soundOf r ≡ true → inputRefusal codes enable ≡ 0
@@ -123,7 +133,8 @@ channel-sound levels slot counted enabled code ch h s =
     and-true _ _
     (and-true _ _ (window-set (ch .samples) slot (sampleOf code) (and-left _ (leb (ch .«loss_run») lossFrames) two) (sample-is-sound code h))
     (le-leb _ lossFrames (run-le lossFrames (ch .«loss_run») counted (enabled && loss levels .meets window) loss-run)))
-    (over-sound (levels .current) (leb (levels .pickup) (amplitudeOf window)) counted enabled (ch .«over_latch») (ch .«over_run») _ refl over)
+    (over-sound (levels .current) (leb (levels .pickup) (amplitudeOf 1 window) && unrestrainedBy (levels .restraint) window) counted enabled
+    (ch .«over_latch») (ch .«over_run») _ refl over)
 
 cleared-sound : (current : Bool) (ch : Channel) → channelSound current ch ≡ true → channelSound current (clearedOf ch) ≡ true
 unfolding channelSound

@@ -10,6 +10,7 @@ use lib.ListN.{set, replicate}
 use Rattle.relay.specs.declared.Channel.{Channel}
 use Rattle.relay.specs.declared.Settings.{Settings}
 use Rattle.relay.specs.declared.Relay.{Relay}
+use Rattle.relay.specs.declared.FrameAnswer.{FrameAnswer}
 use Rattle.lists.specs.Each.{table}
 use Rattle.relay.specs.Sound.{channelSound, soundOf}
 use Rattle.relay.specs.Relay.{freshOf, frameOf, resetOf}
@@ -70,10 +71,13 @@ byMask r = table 256 (λ mask. resetOf r mask .refusal)
 -- ---- one level apart from the others, in each place: what making a relay answers, and what the two calls on a relay that has it answer
 
 abbrev dropped : ℕ → ℕ → Settings
-dropped level c = record { drop = set (replicate 6 819) c level; pickup = replicate 3 3413 }
+dropped level c = record { drop = set (replicate 6 819) c level; pickup = replicate 3 3413; restraint = replicate 3 0 }
 
 abbrev picked : ℕ → ℕ → Settings
-picked level k = record { drop = replicate 6 819; pickup = set (replicate 3 3413) k level }
+picked level k = record { drop = replicate 6 819; pickup = set (replicate 3 3413) k level; restraint = replicate 3 0 }
+
+abbrev restrained : ℕ → ℕ → Settings
+restrained r k = record { drop = replicate 6 819; pickup = replicate 3 3413; restraint = set (replicate 3 0) k r }
 
 abbrev withLevel : Settings → List ℕ
 withLevel s = freshOf s .refusal ∷ under s
@@ -83,6 +87,20 @@ eachDrop level = table 6 (λ c. withLevel (dropped level c))
 
 abbrev eachPickup : ℕ → List (List ℕ)
 eachPickup level = table 3 (λ k. withLevel (picked level k))
+
+abbrev eachRestraint : ℕ → List (List ℕ)
+eachRestraint r = table 3 (λ k. withLevel (restrained r k))
+
+-- a settled relay with such a restraint
+abbrev restraining : ℕ → ℕ → Relay
+restraining r k = record { channels = still; age = 72; slot = 7; settings = restrained r k }
+
+-- one of any age
+abbrev restrainingAt : ℕ → ℕ → Relay
+restrainingAt age r = record { channels = still; age = age; slot = 0; settings = restrained r 2 }
+
+abbrev notRun : Relay → FrameAnswer
+notRun r = record { relay = r; refusal = 2; amplitudes = replicate 6 0; output = 0 }
 
 pub record SoundCalls : Type 0 where
   -- "enable bit 7 is 1", "reset mask bit 6 or 7 is 1", of every byte; a relay that is not sound comes first
@@ -95,6 +113,19 @@ pub record SoundCalls : Type 0 where
   pub above : (eachDrop 10701 ≡ replicate 6 (1 ∷ bothRefused)) × (eachPickup 10701 ≡ replicate 3 (1 ∷ bothRefused))
   pub far-above : (eachDrop 20000 ≡ replicate 6 (1 ∷ bothRefused)) × (eachPickup 20000 ≡ replicate 3 (1 ∷ bothRefused))
   pub highest-number : (eachDrop 65535 ≡ replicate 6 (1 ∷ bothRefused)) × (eachPickup 65535 ≡ replicate 3 (1 ∷ bothRefused))
+  -- "a restraint level r, 1 to 100 or 0 for off" (document 02, Paper 8), of each current; 101 is refused by 20, and a relay that has it is not sound
+  pub restraints : (eachRestraint 0 ≡ replicate 3 (0 ∷ bothAccepted)) × (eachRestraint 1 ≡ replicate 3 (0 ∷ bothAccepted))
+  pub highest-restraints : (eachRestraint 99 ≡ replicate 3 (0 ∷ bothAccepted)) × (eachRestraint 100 ≡ replicate 3 (0 ∷ bothAccepted))
+  pub high-restraints : (eachRestraint 101 ≡ replicate 3 (20 ∷ bothRefused)) × (eachRestraint 255 ≡ replicate 3 (20 ∷ bothRefused))
+  pub each-restraint : table 3 (λ k. table 256 (λ r. soundOf (restraining r k))) ≡ replicate 3 (replicate 101 true ++ replicate 155 false)
+  pub restraint-ages : (table 73 (λ age. soundOf (restrainingAt age 101)) ≡ replicate 73 false)
+      × (table 73 (λ age. soundOf (restrainingAt age 100)) ≡ replicate 73 true)
+  -- such a relay is handed back as it was given, its restraints too; a bad code, enable byte or mask comes after it
+  pub unsound-frame : (table 3 (λ k. frameOf (restraining 101 k) (replicate 6 1024) 128) ≡ table 3 (λ k. notRun (restraining 101 k)))
+      × (table 3 (λ k. frameOf (restraining 255 k) quiet 127) ≡ table 3 (λ k. notRun (restraining 255 k)))
+  pub unsound-reset : (table 3 (λ k. resetOf (restraining 101 k) 63) ≡ table 3 (λ k. record { relay = restraining 101 k; refusal = 2 }))
+      × (table 3 (λ k. resetOf (restraining 255 k) 192) ≡ table 3 (λ k. record { relay = restraining 255 k; refusal = 2 }))
+  pub restraint-first : (byEnable (restraining 101 2) ≡ replicate 256 2) × (byMask (restraining 101 2) ≡ replicate 256 2)
   -- "age is 0 to 72, slot 0 to 7"
   pub ages : (aged 0 0 ≡ bothAccepted) × (aged 72 0 ≡ bothAccepted) × (aged 73 0 ≡ bothRefused) × (aged 255 0 ≡ bothRefused)
   pub each-age : table 256 (λ age. soundOf (aging age 0)) ≡ replicate 73 true ++ replicate 183 false
@@ -130,6 +161,14 @@ calls =
       above = (refl, refl);
       far-above = (refl, refl);
       highest-number = (refl, refl);
+      restraints = (refl, refl);
+      highest-restraints = (refl, refl);
+      high-restraints = (refl, refl);
+      each-restraint = refl;
+      restraint-ages = (refl, refl);
+      unsound-frame = (refl, refl);
+      unsound-reset = (refl, refl);
+      restraint-first = (refl, refl);
       ages = (refl, refl, refl, refl);
       each-age = refl;
       each-slot = refl;

@@ -3,7 +3,7 @@
 use Prim.Native.Nat.{ℕ}
 use mathlib.Core.Bool.{Bool, _&&_}
 use mathlib.Core.List.{List, _∷_}
-use lib.Dec.{leb}
+use lib.Dec.{leb, eqb}
 use lib.ListN.{getD}
 use Rattle.lists.specs.Each.{every, table}
 use Rattle.refusals.specs.Refusals.{_orElse_, firstFault, unsoundRelay}
@@ -15,7 +15,7 @@ use Rattle.relay.specs.declared.Settings.{Settings}
 use Rattle.relay.specs.declared.ChannelsAndOutput.{ChannelsAndOutput}
 use Rattle.frames.specs.Bits.{bitsBelow, enabledIn}
 use Rattle.relay.specs.Channel.{noChannel, windowAfter, channelWith, latchOn}
-use Rattle.relay.specs.Settings.{isCurrent, levelsOf, settingsSound, lossFrames, settled}
+use Rattle.relay.specs.Settings.{isCurrent, levelsOf, unrestrainedBy, settingsSound, lossFrames, settled}
 use Rattle.relay.specs.Sound.{overSound}
 use Rattle.relay.specs.Relay.{windowIn, inputChecks, resetChannel, maskChecks}
 
@@ -54,6 +54,17 @@ channelsAndOutput settings counted enable windows channels =
       channels = table 6 (channelIn settings counted enable windows channels);
       output = bitsBelow 6 (onIn settings counted enable windows channels);
     }
+
+-- which channels are unrestrained; a voltage has no restraint
+unfoldable pub unrestrainedAt : Settings → List Window → ℕ → Bool
+unrestrainedAt settings windows c = unrestrainedBy (levelsOf settings c .restraint) (channelWindow windows c)
+
+unfoldable pub unrestrainedIn : Settings → List Window → List Bool
+unrestrainedIn settings windows = table 6 (unrestrainedAt settings windows)
+
+-- each of the first n numbers is 0
+abbrev pub allZero : ℕ → List ℕ → Bool
+allZero n xs = every n (λ k. eqb (getD xs k 0) 0)
 
 -- the six channels after a reset
 unfoldable pub resetsOf : ℕ → List Channel → List Channel

@@ -1,5 +1,5 @@
--- The relay's three calls, refusals included (document 01, "Frames, runs, latches, resets" and rows 1 to
--- 5 of "Refusals"). Rests on one channel's rules and on what a sound relay is.
+-- The relay's three calls, refusals included (document 01, "Frames, runs, latches, resets", rows 1 to 5 of "Refusals",
+-- and 20 of document 02). Rests on one channel's rules and on what a sound relay is.
 use Prim.Native.Nat.{ℕ, _+_}
 use mathlib.Core.Bool.{Bool, _&&_, _||_, not, cond}
 use mathlib.Core.List.{List, [], _∷_}
@@ -8,7 +8,7 @@ use lib.Dec.{ltb, leb, eqb}
 use lib.ListN.{getD, replicate}
 use Rattle.lists.specs.Each.{table}
 use Rattle.refusals.specs.Refusals.{Check, _orElse_, firstFault, accepted}
-use Rattle.refusals.specs.Refusals.{badSetting, unsoundRelay, badCode, badEnable, badMask}
+use Rattle.refusals.specs.Refusals.{badSetting, unsoundRelay, badCode, badEnable, badMask, badRestraint}
 use Rattle.frames.specs.Codes.{codesInRange}
 use Rattle.frames.specs.Bits.{bitOf, bitsBelow, enabledIn}
 use Rattle.phasor.specs.Cordic.{amplitudeOf}
@@ -18,7 +18,7 @@ use Rattle.relay.specs.declared.Relay.{Relay}
 use Rattle.relay.specs.declared.FreshAnswer.{FreshAnswer}
 use Rattle.relay.specs.declared.FrameAnswer.{FrameAnswer}
 use Rattle.relay.specs.declared.ResetAnswer.{ResetAnswer}
-use Rattle.relay.specs.Settings.{settingsSound, zeroSettings, levelsOf, settled}
+use Rattle.relay.specs.Settings.{levelsSound, restraintsSound, zeroSettings, levelsOf, settled}
 use Rattle.relay.specs.Channel.{noChannel, freshChannel, clearedOf, windowAfter, channelAfter, latchOn}
 use Rattle.relay.specs.Sound.{soundOf}
 
@@ -31,13 +31,13 @@ channelAt r c = getD (r .channels) c noChannel
 unfoldable pub freshRelay : Settings → Relay
 freshRelay s = record { channels = replicate 6 freshChannel; age = 0; slot = 0; settings = s }
 
--- what refusal 1 returns
+-- what refusals 1 and 20 return
 unfoldable pub zeroRelay : Relay
 zeroRelay = freshRelay zeroSettings
 
--- making a relay has one check
+-- "20 for r above 100, after 1"
 abbrev pub freshChecks : Settings → List Check
-freshChecks s = (settingsSound s orElse badSetting) ∷ []
+freshChecks s = (levelsSound s orElse badSetting) ∷ (restraintsSound (s .restraint) orElse badRestraint) ∷ []
 
 unfoldable pub freshRefusal : Settings → ℕ
 freshRefusal s = firstFault (freshChecks s)
@@ -70,7 +70,7 @@ abbrev pub windowIn : ℕ → List ℕ → List Channel → ℕ → List ℤ
 windowIn slot codes channels c = windowAfter slot (getD codes c 0) (getD channels c noChannel)
 
 unfoldable pub amplitudeIn : ℕ → List ℕ → List Channel → ℕ → ℕ
-amplitudeIn slot codes channels c = amplitudeOf (windowIn slot codes channels c)
+amplitudeIn slot codes channels c = amplitudeOf 1 (windowIn slot codes channels c)
 
 -- channel c after steps 1 to 4
 unfoldable pub nextChannel : Settings → ℕ → Bool → List ℕ → ℕ → List Channel → ℕ → Channel

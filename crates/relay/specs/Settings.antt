@@ -1,10 +1,10 @@
--- Settings, levels, the two kinds of run and their lengths (document 01, "Frames, runs, latches, resets"): all that a
--- level or a length is stands here. Rests on the amplitude of a window.
-use Prim.Native.Nat.{ℕ, _-_}
-use mathlib.Core.Bool.{Bool, _&&_, cond}
+-- Settings, levels, the two kinds of run and their lengths (document 01, "Frames, runs, latches, resets"), and harmonic
+-- restraint (document 02, Paper 8): all that a level or a length is stands here. Rests on the amplitude of a window.
+use Prim.Native.Nat.{ℕ, _-_, _*_}
+use mathlib.Core.Bool.{Bool, _&&_, _||_, cond}
 use mathlib.Core.List.{List}
 use lib.IntN.{ℤ}
-use lib.Dec.{ltb, leb}
+use lib.Dec.{ltb, leb, eqb}
 use lib.ListN.{getD, replicate}
 use Rattle.lists.specs.Each.{every}
 use Rattle.phasor.specs.Cordic.{amplitudeOf}
@@ -35,19 +35,33 @@ dropsSound drop = levelsInRange 6 drop
 unfoldable pub pickupsSound : List ℕ → Bool
 pickupsSound pickup = levelsInRange 3 pickup
 
+abbrev pub levelsSound : Settings → Bool
+levelsSound s = dropsSound (s .drop) && pickupsSound (s .pickup)
+
+-- Paper 8: "Each current gets a restraint level r, 1 to 100 or 0 for off."
+abbrev pub mostRestraint : ℕ
+mostRestraint = 100
+
+abbrev pub restraintInRange : List ℕ → ℕ → Bool
+restraintInRange restraint k = leb (getD restraint k 0) mostRestraint
+
+unfoldable pub restraintsSound : List ℕ → Bool
+restraintsSound restraint = every 3 (restraintInRange restraint)
+
 abbrev pub settingsSound : Settings → Bool
-settingsSound s = dropsSound (s .drop) && pickupsSound (s .pickup)
+settingsSound s = levelsSound s && restraintsSound (s .restraint)
 
--- the settings of the relay that refusal 1 returns
+-- the settings of the relay that refusals 1 and 20 return
 abbrev pub zeroSettings : Settings
-zeroSettings = record { drop = replicate 6 0; pickup = replicate 3 0 }
+zeroSettings = record { drop = replicate 6 0; pickup = replicate 3 0; restraint = replicate 3 0 }
 
--- channel c's own levels; a voltage has no pickup, and its place holds 0
+-- channel c's own levels; a voltage has no pickup and no restraint, and their places hold 0
 unfoldable pub levelsOf : Settings → ℕ → ChannelLevels
 levelsOf s c =
     record {
       drop = getD (s .drop) c 0;
       pickup = cond (isCurrent c) (getD (s .pickup) (c - 3) 0) 0;
+      restraint = cond (isCurrent c) (getD (s .restraint) (c - 3) 0) 0;
       current = isCurrent c;
     }
 
@@ -72,8 +86,20 @@ pub record Kind : Type 0 where
 
 -- the loss run: frames with m < drop
 abbrev pub loss : ChannelLevels → Kind
-loss levels = record { len = lossFrames; meets = λ w. ltb (amplitudeOf w) (levels .drop) }
+loss levels = record { len = lossFrames; meets = λ w. ltb (amplitudeOf 1 w) (levels .drop) }
 
--- the over run: frames with m ≥ pickup; a voltage has none
+-- Paper 8: "only if r is 0 or 100 times the second-harmonic amplitude is less than r times the fundamental".
+-- Unrestrained (our word): this test of r and of the two amplitudes of one window.
+abbrev pub unrestrained : ℕ → ℕ → ℕ → Bool
+unrestrained r fundamental second = eqb r 0 || ltb (100 * second) (r * fundamental)
+
+abbrev pub unrestrainedBy : ℕ → List ℤ → Bool
+unrestrainedBy r w = unrestrained r (amplitudeOf 1 w) (amplitudeOf 2 w)
+
+-- the over run: frames with m ≥ pickup that are unrestrained; a voltage has none
 abbrev pub over : ChannelLevels → Kind
-over levels = record { len = overFrames; meets = λ w. levels .current && leb (levels .pickup) (amplitudeOf w) }
+over levels =
+    record {
+      len = overFrames;
+      meets = λ w. levels .current && (leb (levels .pickup) (amplitudeOf 1 w) && unrestrainedBy (levels .restraint) w);
+    }

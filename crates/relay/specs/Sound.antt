@@ -1,7 +1,8 @@
 -- A sound relay, a term of document 01: "settings are in range, age is 0 to 72, slot 0 to 7, samples −512 to 511, loss
 -- runs 0 to 16, over runs 0 to 4. A voltage has no over run and no over latch; a place kept for one must hold 0 or
 -- off."
--- No relation between fields is asked for. Rests on the settings and on a window's samples.
+-- "Settings are in range" where neither refusal 1 nor refusal 20 would refuse them: an r above 100 is unsound too. No
+-- relation between fields is asked for. Rests on the settings and on a window's samples.
 use mathlib.Core.Bool.{Bool, _&&_, not, cond}
 use mathlib.Core.List.{List}
 use lib.Dec.{leb, eqb}

@@ -1,6 +1,6 @@
-// The relay of document 01: six channels, each with its window, runs and latches, under nine levels. Its entry points
-// are `Relay::fresh`, `Relay::frame` and `Relay::reset`: each takes any arguments, a relay that is not sound too, and
-// promises its whole answer.
+// The relay of document 01: six channels, each with its window, runs and latches, under nine levels, and a restraint
+// level for each current (document 02, Paper 8). Its entry points are `Relay::fresh`, `Relay::frame` and
+// `Relay::reset`: each takes any arguments, a relay that is not sound too, and promises its whole answer.
 ghost use mathlib.Core.Path.{_≡_};
 ghost use Rattle.relay.specs.Relay.{freshRelay, freshOf, frameRefusal, acceptedFrame, refusedFrame, frameOf};
 ghost use Rattle.relay.specs.Relay.{acceptedReset, resetOf};
@@ -20,19 +20,21 @@ pub struct Channel {
     pub over_latch: bool,
 }
 
-// The levels of one channel. A voltage has no pickup; its place holds 0. Public because the history's definitions name
-// it; no entry point takes or gives one.
+// The levels of one channel. A voltage has no pickup and no restraint; their places hold 0. Public because the
+// history's definitions name it; no entry point takes or gives one.
 pub struct ChannelLevels {
     pub drop: u16,
     pub pickup: u16,
+    pub restraint: u8,
     pub current: bool,
 }
 
-// A drop level for each channel, a pickup level for each current.
+// A drop level for each channel, a pickup level and a restraint level for each current.
 #[repr(C)]
 pub struct Settings {
     pub drop: [u16; 6],
     pub pickup: [u16; 3],
+    pub restraint: [u8; 3],
 }
 
 #[repr(C)]
@@ -43,7 +45,7 @@ pub struct Relay {
     pub settings: Settings,
 }
 
-// Each answer has its refusal: the number of document 01's table, 0 where the call was accepted.
+// Each answer has its refusal: the documents' number, 0 where the call was accepted.
 #[repr(C)]
 pub struct FreshAnswer {
     pub relay: Relay,
@@ -95,18 +97,20 @@ impl Relay {
         }
     }
 
-    // Makes a fresh relay; a level outside 1 to 10,700 is refused with the all-zero relay.
+    // Makes a fresh relay; a level outside 1 to 10,700, or a restraint above 100, is refused with the all-zero relay.
     pub fn fresh(settings: Settings) -> FreshAnswer
         ensures { λ r. ⌜ r ≡ freshOf settings ⌝ }
     {
-        if !settings.sound() {
+        let refusal = settings.refusal();
+        if refusal != refusals::ACCEPTED {
             let zeros = Settings {
                 drop: [0; 6],
                 pickup: [0; 3],
+                restraint: [0; 3],
             };
             return FreshAnswer {
                 relay: Relay::fresh_relay(zeros),
-                refusal: refusals::BAD_SETTING,
+                refusal: refusal,
             };
         }
         FreshAnswer {
@@ -126,7 +130,16 @@ impl Relay {
         let counted = levels::SETTLED <= self.age;
         let windows = steps::windows_after(old, slot, codes);
         let amplitudes = phasor::amplitudes(windows);
-        let made = steps::channels_after(old, settings, windows, counted, amplitudes, enable);
+        let unrestrained = steps::unrestrained_channels(settings, windows, amplitudes);
+        let made = steps::channels_after(
+            old,
+            settings,
+            windows,
+            counted,
+            amplitudes,
+            unrestrained,
+            enable,
+        );
         let channels = made.channels;
         let mut next = self;
         next.channels = channels;

@@ -5,10 +5,11 @@ ghost use mathlib.Core.Bool.{true, cond};
 ghost use Prim.Native.Nat.{_<_};
 ghost use Rattle.phasor.specs.Cordic.{amplitudeOf};
 ghost use Rattle.frames.specs.Codes.{codeLimit, codesInRange};
-ghost use Rattle.phasor.specs.Lanes.{amplitudesOf};
+ghost use Rattle.phasor.specs.Lanes.{WindowsSound, amplitudesOf};
+ghost use Rattle.relay.specs.Settings.{unrestrainedBy};
 ghost use Rattle.relay.specs.Channel.{freshChannel, clearedOf, runAfter, channelWith};
 ghost use Rattle.relay.specs.Relay.{ageAfter, slotAfter};
-ghost use Rattle.relay.specs.Internal.{storedWindow, windowsOf, channelsAndOutput, resetsOf};
+ghost use Rattle.relay.specs.Internal.{storedWindow, windowsOf, channelsAndOutput, resetsOf, unrestrainedIn};
 use crate::Channel;
 use crate::ChannelLevels;
 use crate::ChannelsAndOutput;
@@ -16,6 +17,7 @@ use crate::Settings;
 use crate::levels::LOSS_FRAMES;
 use crate::levels::OVER_FRAMES;
 use crate::levels::SETTLED;
+use crate::levels::unrestrained;
 use frames::bits::bit;
 use frames::bits::enabled_in;
 use frames::bits::with_bit;
@@ -81,7 +83,8 @@ impl Channel {
         phasor::Window { samples: samples }
     }
 
-    // Steps 1 to 4 of a frame, where the window has the frame's sample in its slot, and m is its amplitude.
+    // Steps 1 to 4 of a frame, where the window has the frame's sample in its slot, m is its amplitude, and the channel
+    // is unrestrained or not.
     pub(crate) fn after(
         self,
         levels: ChannelLevels,
@@ -89,13 +92,15 @@ impl Channel {
         counted: bool,
         enabled: bool,
         m: u16,
+        unrestrained: bool,
     ) -> Channel
-        requires { ⌜ m ≡ amplitudeOf (window .samples) ⌝ }
+        requires { ⌜ m ≡ amplitudeOf 1 (window .samples) ⌝ }
+        requires { ⌜ unrestrained ≡ unrestrainedBy (levels .restraint) (window .samples) ⌝ }
         ensures { λ r. ⌜ r ≡ channelWith levels counted enabled (window .samples) self ⌝ }
     {
         let samples = window.samples;
         let below = enabled & (m < levels.drop);
-        let above = enabled & (levels.current & (levels.pickup <= m));
+        let above = enabled & (levels.current & ((levels.pickup <= m) & unrestrained));
         let loss = run_after(counted, below, self.loss_run, LOSS_FRAMES);
         let over = run_after(counted, above, self.over_run, OVER_FRAMES);
         Channel {
@@ -127,6 +132,31 @@ pub(crate) fn windows_after(
     windows
 }
 
+// Which channels are unrestrained, from the windows of step 1 and their amplitudes. The second harmonic is found only
+// where some restraint is on.
+pub(crate) fn unrestrained_channels(
+    settings: Settings,
+    windows: [phasor::Window; 6],
+    amplitudes: [u16; 6],
+) -> [bool; 6]
+    requires { ⌜ WindowsSound windows ⌝ }
+    requires { ⌜ amplitudes ≡ amplitudesOf windows ⌝ }
+    ensures { λ r. ⌜ r ≡ unrestrainedIn settings windows ⌝ }
+{
+    let restraint = settings.restraint;
+    if (restraint[0] == 0) & (restraint[1] == 0) & (restraint[2] == 0) {
+        return [true; 6];
+    }
+    let seconds = phasor::seconds(windows);
+    let mut made = [true; 6];
+    let mut c: usize = 3;
+    while c < 6 {
+        made[c] = unrestrained(restraint[c - 3], amplitudes[c], seconds[c - 3]);
+        c += 1;
+    }
+    made
+}
+
 // Steps 1 to 4 for each channel, and the output byte of step 5, from the windows of step 1 and their amplitudes.
 pub(crate) fn channels_after(
     old: [Channel; 6],
@@ -134,9 +164,11 @@ pub(crate) fn channels_after(
     windows: [phasor::Window; 6],
     counted: bool,
     amplitudes: [u16; 6],
+    unrestrained: [bool; 6],
     enable: u8,
 ) -> ChannelsAndOutput
     requires { ⌜ amplitudes ≡ amplitudesOf windows ⌝ }
+    requires { ⌜ unrestrained ≡ unrestrainedIn settings windows ⌝ }
     ensures { λ r. ⌜ r ≡ channelsAndOutput settings counted enable windows old ⌝ }
 {
     let mut channels = old;
@@ -145,7 +177,14 @@ pub(crate) fn channels_after(
     while c < 6 {
         let enabled = enabled_in(enable, c);
         let levels = settings.levels(c);
-        let channel = old[c].after(levels, windows[c], counted, enabled, amplitudes[c]);
+        let channel = old[c].after(
+            levels,
+            windows[c],
+            counted,
+            enabled,
+            amplitudes[c],
+            unrestrained[c],
+        );
         let on = (channel.loss_latch | channel.over_latch) & enabled;
         channels[c] = channel;
         output = with_bit(output, c, on);

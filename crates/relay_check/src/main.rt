@@ -1,6 +1,7 @@
 // Runs the relay over frames of a small generator's codes and prints the sum of all amplitudes and output bytes: 64
-// frames for each byte on standard input. Its stored output was made by the second implementation; reference/benchmark
-// runs it on longer inputs.
+// frames for each byte on standard input. Where the first byte is 128 or more, all is enabled throughout, each pickup
+// is 1, and what the byte is above 128 is each current's restraint level. The stored output was made by the second
+// implementation; reference/benchmark runs it on other inputs.
 ghost use Prim.Native.Nat.{_<_, _^_};
 use libc::STDIN_FILENO;
 use libc::STDOUT_FILENO;
@@ -58,17 +59,40 @@ fn total(amplitudes: [u16; 6], output: u8) -> u64 {
     sum
 }
 
-// All is enabled for 64 frames, then one mask after the other.
-fn enable_at(n: u64) -> u8 {
-    (127 - (n >> 6) % 64) as u8
+// The settings that the first byte asks for.
+fn settings_by(first: u8) -> Settings {
+    if first < 128 {
+        return Settings {
+            drop: [819; 6],
+            pickup: [3413; 3],
+            restraint: [0; 3],
+        };
+    }
+    Settings {
+        drop: [819; 6],
+        pickup: [1; 3],
+        restraint: [first - 128; 3],
+    }
+}
+
+// Each mask stands for 2 to the power of this many frames: 64, or more than there are.
+fn hold_by(first: u8) -> u64
+    ensures { λ r. ⌜ r < 64 ⌝ }
+{
+    if first < 128 { 6 } else { 63 }
+}
+
+// All is enabled at first, then one mask after the other.
+fn enable_at(n: u64, hold: u64) -> u8
+    requires { ⌜ hold < 64 ⌝ }
+{
+    (127 - (n >> hold) % 64) as u8
 }
 
 // One call of `frame`, so that it is compiled into the loop.
-fn run(frames: u64) -> u64 {
-    let made = Relay::fresh(Settings {
-        drop: [819; 6],
-        pickup: [3413; 3],
-    });
+fn run(frames: u64, first: u8) -> u64 {
+    let hold = hold_by(first);
+    let made = Relay::fresh(settings_by(first));
     let mut relay = made.relay;
     let mut state: u64 = 1;
     let mut sum: u64 = 0;
@@ -77,7 +101,7 @@ fn run(frames: u64) -> u64 {
         let drawn = draw(state);
         state = drawn.state;
         let codes = drawn.codes;
-        let answer = relay.frame(codes, enable_at(n));
+        let answer = relay.frame(codes, enable_at(n, hold));
         relay = answer.relay;
         let amplitudes = answer.amplitudes;
         sum = std::num::wrapping_add_u64(sum, total(amplitudes, answer.output));
@@ -90,6 +114,6 @@ fn run(frames: u64) -> u64 {
 fn main() {
     let mut input = [0u8; MOST_INPUT];
     let got = io::read_full(STDIN_FILENO, &mut input);
-    io::print_decimal(STDOUT_FILENO, run(64 * (got as u64)));
+    io::print_decimal(STDOUT_FILENO, run(64 * (got as u64), input[0]));
     io::write_all(STDOUT_FILENO, b"\n");
 }

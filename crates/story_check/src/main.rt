@@ -68,6 +68,7 @@ fn main() {
     let made = Relay::fresh(Settings {
         drop: [1; 6],
         pickup: [1603; 3],
+        restraint: [0; 3],
     });
     let mut relay = made.relay;
     let mut n: u16 = 0;

@@ -24,7 +24,7 @@ impl Flags {
 
 /// How often each refusal was answered.
 #[derive(Default)]
-pub struct Refusals([u64; 14]);
+pub struct Refusals([u64; 21]);
 
 impl Refusals {
     pub fn count(&mut self, refusal: u8) {
@@ -32,9 +32,10 @@ impl Refusals {
     }
 
     /// Prints the tally of the refusals, and fails where one of them came fewer than 100 times.
-    pub fn show(&self, rows: std::ops::RangeInclusive<usize>) {
-        let tally: Vec<String> = rows.clone().map(|k| format!("{k}: {}", self.0[k])).collect();
+    pub fn show(&self, rows: impl IntoIterator<Item = usize>) {
+        let rows: Vec<usize> = rows.into_iter().collect();
+        let tally: Vec<String> = rows.iter().map(|&k| format!("{k}: {}", self.0[k])).collect();
         println!("  accepted {}, refused by {}", self.0[0], tally.join(", "));
-        assert!(rows.clone().all(|k| self.0[k] >= 100), "a refusal came fewer than 100 times");
+        assert!(rows.iter().all(|&k| self.0[k] >= 100), "a refusal came fewer than 100 times");
     }
 }

@@ -8,7 +8,7 @@ use Rattle.phasor.proofs.ends.Statement.{statement}
 use Rattle.phasor.proofs.ends.Tie as tie
 
 abbrev Inv-loop : tie.InvT-loop
-Inv-loop p e₀ c₀ e c = Ending p c e
+Inv-loop p e₀ c₀ e c = Ending 8 (p .x) (p .y) c e
 
 abbrev μ-loop : tie.MeasureT-loop
 μ-loop p e₀ c₀ e c = 8 - c

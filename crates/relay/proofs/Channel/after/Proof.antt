@@ -2,7 +2,7 @@
 use Prim.Native.Nat.{ℕ}
 use Rattle.phasor.specs.Cordic.{amplitudeOf}
 use Rattle.relay.specs.Channel.{runAfter, nextRun, nextLatch, channelWith}
-use Rattle.relay.specs.Settings.{loss, over}
+use Rattle.relay.specs.Settings.{unrestrainedBy, loss, over}
 use Rattle.relay.specs.declared.Channel.{Channel}
 use Rattle.relay.specs.declared.ChannelLevels.{ChannelLevels}
 use borrow.Author.Needs.{needs}
@@ -14,10 +14,11 @@ use mathlib.Core.Path.{_≡_}
 use Rattle.relay.proofs.Channel.after.Statement.{statement}
 use Rattle.relay.proofs.Channel.after.Tie as tie
 
-made : (levels : ChannelLevels) (window : List ℤ) (counted enabled : Bool) (m lossRun overRun : ℕ) (ch : Channel)
-    → m ≡ amplitudeOf window
+made : (levels : ChannelLevels) (window : List ℤ) (counted enabled : Bool) (m : ℕ) (free : Bool) (lossRun overRun : ℕ) (ch : Channel)
+    → m ≡ amplitudeOf 1 window
+    → free ≡ unrestrainedBy (levels .restraint) window
     → lossRun ≡ runAfter counted (enabled && ltb m (levels .drop)) (loss levels .len) (ch .«loss_run»)
-    → overRun ≡ runAfter counted (enabled && (levels .current && leb (levels .pickup) m)) (over levels .len) (ch .«over_run»)
+    → overRun ≡ runAfter counted (enabled && (levels .current && (leb (levels .pickup) m && free))) (over levels .len) (ch .«over_run»)
     → _≡_ {A = Channel} (record {
       samples = window;
       «loss_run» = lossRun;
@@ -26,7 +27,7 @@ made : (levels : ChannelLevels) (window : List ℤ) (counted enabled : Bool) (m 
       «over_latch» = nextLatch (over levels) overRun (ch .«over_latch»);
     }) (channelWith levels counted enabled window ch)
 unfolding nextRun
-made levels window counted enabled m lossRun overRun ch q l o = rw (l, o, q)
+made levels window counted enabled m free lossRun overRun ch q f l o = rw (l, o, q, f)
 
 returns : tie.Need-returns
 returns c = search made

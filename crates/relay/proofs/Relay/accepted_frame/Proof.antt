@@ -40,9 +40,9 @@ module _ (r : Relay) (codes : List ℕ) (enable : ℕ) (windows : List Window) (
       let sample = sample-is-sound _ (codes-below codes (codes-passed r codes enable h) c l) in
       rw (window-is c l) (window-set _ _ _ (window-is-sound r (relay-passed r codes enable h) c l) sample)
 
-  amplitude-is : (c : ℕ) → c < 6 → amplitudeOf (channelWindow windows c) ≡ amplitudeIn (r .slot) codes (r .channels) c
+  amplitude-is : (c : ℕ) → c < 6 → amplitudeOf 1 (channelWindow windows c) ≡ amplitudeIn (r .slot) codes (r .channels) c
   unfolding amplitudeIn
-  amplitude-is c h = ap amplitudeOf (window-is c h)
+  amplitude-is c h = ap (amplitudeOf 1) (window-is c h)
 
   channel-is : (c : ℕ) → c < 6
       → channelIn (r .settings) (counted r) enable windows (r .channels) c
@@ -77,11 +77,14 @@ windows-after-requires c κs = search (slot-passed, codes-passed)
 amplitudes-requires : tie.Need-amplitudes-requires
 amplitudes-requires c κs = search windows-sound
 
+unrestrained-channels-requires : tie.Need-unrestrained-channels-requires
+unrestrained-channels-requires c κs = (search windows-sound, search needs)
+
 returns : tie.Need-returns
 returns c = search made
 
 pub accepted-frame-spec : {M : Type 1} → statement M
 accepted-frame-spec =
     tie.close
-    (tie.spec (λ c. search needs) windows-after-requires amplitudes-requires (λ c κs. search needs)
-    (λ c κs. search needs) (λ c κs. search needs) returns)
+    (tie.spec (λ c. search needs) windows-after-requires amplitudes-requires unrestrained-channels-requires
+    (λ c κs. search needs) (λ c κs. search needs) (λ c κs. search needs) returns)

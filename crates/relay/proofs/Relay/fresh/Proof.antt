@@ -1,26 +1,26 @@
--- `Relay::fresh` meets its contract, for accepted settings and for refusal 1.
-use Rattle.refusals.specs.Refusals.{accepted, badSetting}
+-- `Relay::fresh` meets its contract, for accepted settings and for refused ones.
+use Prim.Native.Nat.{ℕ}
+use Rattle.refusals.specs.Refusals.{accepted}
 use Rattle.relay.specs.Relay.{freshRelay, zeroRelay, freshRefusal, freshOf}
-use Rattle.relay.specs.Settings.{settingsSound, zeroSettings}
+use Rattle.relay.specs.Settings.{zeroSettings}
 use Rattle.relay.specs.declared.FreshAnswer.{FreshAnswer}
 use Rattle.relay.specs.declared.Relay.{Relay}
 use Rattle.relay.specs.declared.Settings.{Settings}
 use borrow.Author.Needs.{needs}
-use borrow.Author.Tests.{not-true, not-false}
-use mathlib.Core.Bool.{Bool, true, false, not}
+use borrow.Author.Tests.{ne-eqb}
 use mathlib.Core.Path.{_≡_}
 use Rattle.relay.proofs.Relay.fresh.Statement.{statement}
 use Rattle.relay.proofs.Relay.fresh.Tie as tie
 
-refused : (settings : Settings) (s : Bool) (r : Relay) → s ≡ settingsSound settings → not s ≡ true → r ≡ freshRelay zeroSettings
-    → _≡_ {A = FreshAnswer} (record { relay = r; refusal = badSetting }) (freshOf settings)
-unfolding freshOf freshRefusal zeroRelay
-refused settings s r e h q = rw (q, ← e, not-true s h)
+refused : (settings : Settings) (n : ℕ) (r : Relay) → n ≡ freshRefusal settings → ¬ (n ≡ 0) → r ≡ freshRelay zeroSettings
+    → _≡_ {A = FreshAnswer} (record { relay = r; refusal = n }) (freshOf settings)
+unfolding freshOf zeroRelay
+refused settings n r e h q = rw (q, ← e, ne-eqb n 0 h)
 
-made : (settings : Settings) (s : Bool) (r : Relay) → s ≡ settingsSound settings → not s ≡ false → r ≡ freshRelay settings
+made : (settings : Settings) (n : ℕ) (r : Relay) → n ≡ freshRefusal settings → n ≡ 0 → r ≡ freshRelay settings
     → _≡_ {A = FreshAnswer} (record { relay = r; refusal = accepted }) (freshOf settings)
-unfolding freshOf freshRefusal
-made settings s r e h q = rw (q, ← e, not-false s h)
+unfolding freshOf
+made settings n r e h q = rw (q, ← e, h)
 
 returns : tie.Need-returns
 returns c = search refused

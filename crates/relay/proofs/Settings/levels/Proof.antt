@@ -12,12 +12,17 @@ use Rattle.relay.proofs.Settings.levels.Statement.{statement}
 use Rattle.relay.proofs.Settings.levels.Tie as tie
 
 voltage : (s : Settings) (c : ℕ) → c < 3
-    → _≡_ {A = ChannelLevels} (record { drop = getD (s .drop) c 0; pickup = 0; current = false }) (levelsOf s c)
+    → _≡_ {A = ChannelLevels} (record { drop = getD (s .drop) c 0; pickup = 0; restraint = 0; current = false }) (levelsOf s c)
 unfolding levelsOf
 voltage s c h = rw (lt-leb 3 c h)
 
 current : (s : Settings) (c : ℕ) → 3 ≤ c
-    → _≡_ {A = ChannelLevels} (record { drop = getD (s .drop) c 0; pickup = getD (s .pickup) (c - 3) 0; current = true }) (levelsOf s c)
+    → _≡_ {A = ChannelLevels} (record {
+      drop = getD (s .drop) c 0;
+      pickup = getD (s .pickup) (c - 3) 0;
+      restraint = getD (s .restraint) (c - 3) 0;
+      current = true;
+    }) (levelsOf s c)
 unfolding levelsOf
 current s c h = rw (le-leb 3 c h)
 
@@ -30,4 +35,5 @@ returns-2 c = search current
 pub levels-spec : {M : Type 1} → statement M
 levels-spec =
     tie.close
-    (tie.spec (λ c. search needs) (λ c. search needs) returns (λ c. search needs) (λ c. search needs) returns-2)
+    (tie.spec (λ c. search needs) (λ c. search needs) returns (λ c. search needs) (λ c. search needs) (λ c. search needs)
+    returns-2)

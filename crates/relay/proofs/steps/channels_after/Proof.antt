@@ -8,15 +8,15 @@ use Rattle.phasor.specs.Cordic.{amplitudeOf}
 use Rattle.phasor.specs.Lanes.{channelWindow, amplitudesOf}
 use Rattle.phasor.specs.declared.Window.{Window}
 use Rattle.relay.specs.Channel.{noChannel, channelWith}
-use Rattle.relay.specs.Internal.{channelIn, onIn, channelsAndOutput}
-use Rattle.relay.specs.Settings.{levelsOf}
+use Rattle.relay.specs.Internal.{channelIn, onIn, channelsAndOutput, unrestrainedAt, unrestrainedIn}
+use Rattle.relay.specs.Settings.{levelsOf, unrestrainedBy}
 use Rattle.relay.specs.declared.Channel.{Channel}
 use Rattle.relay.specs.declared.ChannelsAndOutput.{ChannelsAndOutput}
 use Rattle.relay.specs.declared.ChannelLevels.{ChannelLevels}
 use Rattle.relay.specs.declared.Settings.{Settings}
 use borrow.Author.Needs.{needs}
 use lib.ListN.{length, getD, set}
-use mathlib.Core.Bool.{Bool, _&&_, _||_, cond}
+use mathlib.Core.Bool.{Bool, false, _&&_, _||_, cond}
 use mathlib.Core.List.{List}
 use mathlib.Core.Path.{_≡_, refl, _∙_}
 use native.Mathlib.Omega.{arith}
@@ -24,8 +24,14 @@ use Rattle.relay.proofs.steps.channels_after.Statement.{statement}
 use Rattle.relay.proofs.steps.channels_after.Tie as tie
 
 amplitude-is : (windows : List Window) (amplitudes : List ℕ) (c : ℕ) → amplitudes ≡ amplitudesOf windows → c < 6
-    → getD amplitudes c 0 ≡ amplitudeOf (channelWindow windows c)
-amplitude-is windows amplitudes c e h = rw e (getD-table 6 (λ k. amplitudeOf (channelWindow windows k)) 0 c h)
+    → getD amplitudes c 0 ≡ amplitudeOf 1 (channelWindow windows c)
+amplitude-is windows amplitudes c e h = rw e (getD-table 6 (λ k. amplitudeOf 1 (channelWindow windows k)) 0 c h)
+
+free-is : (settings : Settings) (windows : List Window) (free : List Bool) (levels : ChannelLevels) (c : ℕ)
+    → free ≡ unrestrainedIn settings windows → levels ≡ levelsOf settings c → c < 6
+    → getD free c false ≡ unrestrainedBy (levels .restraint) (channelWindow windows c)
+unfolding unrestrainedIn unrestrainedAt
+free-is settings windows free levels c e l h = rw (e, l) (getD-table 6 (unrestrainedAt settings windows) false c h)
 
 record Making (settings : Settings) (counted : Bool) (enable : ℕ) (windows : List Window) (old channels : List Channel) (output c : ℕ) : Type 0 where
   filled : Filled 6 (channelIn settings counted enable windows old) channels c
@@ -65,17 +71,17 @@ module _
         rw (filled-all 6 _ channels c (making .filled) h, rw end at (making .bits))
 
 abbrev Inv-loop : tie.InvT-loop
-Inv-loop settings counted enable old windows amplitudes channels₀ output₀ c₀ channels output c =
+Inv-loop settings counted enable old windows amplitudes free channels₀ output₀ c₀ channels output c =
     Making settings counted enable windows old channels output c
 
 abbrev μ-loop : tie.MeasureT-loop
-μ-loop settings counted enable old windows amplitudes channels₀ output₀ c₀ channels output c = 6 - c
+μ-loop settings counted enable old windows amplitudes free channels₀ output₀ c₀ channels output c = 6 - c
 
 loop-holds : tie.Need-loop-holds Inv-loop μ-loop
 loop-holds c = search (begin, length-mapped)
 
 after-requires : tie.Need-after-requires Inv-loop μ-loop
-after-requires c κs = search amplitude-is
+after-requires c κs = (search amplitude-is, search free-is)
 
 with-bit-requires : tie.Need-with-bit-requires Inv-loop μ-loop
 with-bit-requires c κs = search (needs, output-lt)
@@ -90,6 +96,6 @@ pub channels-after-spec : {M : Type 1} → statement M
 channels-after-spec =
     tie.close
     (tie.spec Inv-loop μ-loop loop-holds (λ c κs. search needs) (λ c κs. search needs) (λ c. search needs)
-    (λ c. search needs) (λ c. search needs) (λ c. search needs) (λ c. search needs) (λ c. search needs)
+    (λ c. search needs) (λ c. search needs) (λ c. search needs) (λ c. search needs) (λ c. search needs) (λ c. search needs)
     after-requires (λ c. search needs) (λ c. search needs) with-bit-requires (λ c. search needs) (λ c. search needs)
     loop-again returns)

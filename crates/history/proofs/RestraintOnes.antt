@@ -1,0 +1,443 @@
+-- There are relays that restrain wrongly in the ways that `Wrong` says: ours, with one thing changed in what an accepted frame makes of a channel.
+-- Five of them have another kind of run, so that what is proved of a channel for any kinds says when their latches are on; in the sixth a restrained
+-- frame leaves the run as it was. Lists from accepted settings hold no unsound relay, so these look at no soundness. Rests on Channel.
+use Prim.Native.Nat.{ℕ, zero, suc, _+_, _-_, _%_, _≤_, _<_, min}
+use native.Mathlib.Decide.{ℕ-discrete}
+use native.Mathlib.Omega.{arith}
+use mathlib.Core.Path.{_≡_, refl, sym, ap, ap₂, _∙_, subst}
+use mathlib.Core.Bool.{Bool, true, false, _&&_, _||_, not, cond, false≢true}
+use mathlib.Core.List.{List, [], _∷_, _++_, append-nil, append-assoc}
+use mathlib.Core.Logic.{_↔_}
+use lib.IntN.{ℤ}
+use lib.Dec.{T, ltb, leb, eqb, lit<, le→leb}
+use lib.ListN.{getD, set, replicate}
+use borrow.Author.Tests.{ne-eqb, le-leb}
+use mir.Facts.{yes-and}
+use Rattle.lists.specs.Each.{table}
+use Rattle.lists.proofs.Each.{getD-table}
+use Rattle.frames.specs.Codes.{sampleOf}
+use Rattle.frames.specs.Bits.{bitOf, bitsBelow, enabledIn}
+use Rattle.phasor.specs.Cordic.{amplitudeOf}
+use Rattle.relay.specs.declared.Channel.{Channel}
+use Rattle.relay.specs.declared.Settings.{Settings}
+use Rattle.relay.specs.declared.Relay.{Relay}
+use Rattle.relay.specs.declared.FrameAnswer.{FrameAnswer}
+use Rattle.relay.specs.declared.ResetAnswer.{ResetAnswer}
+use Rattle.relay.specs.Settings.{Kind, settled}
+use Rattle.relay.specs.Channel.{noChannel, freshChannel, clearedOf, runAfter, nextRun, nextLatch, latchOn}
+use Rattle.relay.specs.Relay.{channelAt, freshRelay, freshOf, counted, ageAfter, slotAfter, amplitudeIn, resetChannel, acceptedReset}
+use Rattle.relay.proofs.Laws.{fresh-is, fresh-channel, reset-channel}
+use Rattle.history.specs.Calls.{Codes, Call, frame, reset, frameRefusedBy, resetRefusedBy, refusalOf, Implementation, handedBack, after}
+use Rattle.history.specs.History.{Input, Event, sampled, cleared, channelHistory, frames, resets, resetsBefore, windowOf, windowAt}
+use Rattle.history.specs.History.{InEach, InRun, LatchOn}
+use Rattle.history.specs.Demand.{harmonicTest, levels, lossOf, overOf, relayAfter, lossAfter, overAfter, AcceptedSettings}
+use Rattle.history.specs.WrongRelays.{TripsBy, overPickup, overBy, overAtMost, overByThird, KeepsRun, RestrainsLoss, Wrong}
+use Rattle.history.specs.WrongRelays.{ignoresRestraint, notStrict, thirdHarmonic, keepsRun, restrainsLoss, anothersRestraint}
+use Rattle.history.proofs.Accepted.{settings-sound}
+use Rattle.history.proofs.History.{_▷_, frames-sampled, inputs-cleared, input-last, resets-cleared}
+use Rattle.history.proofs.History.{before-append, before-le, window-cleared, window-sampled}
+use Rattle.history.proofs.Channel.{Live, live-same, ChannelIs, channelBy, loss-rule, over-rule}
+use Rattle.history.proofs.Channel.{channel-fresh, channel-cleared, channel-sampled, age-step, slot-step}
+use Rattle.history.proofs.Relay.{history-frame, history-reset, history-refused}
+
+-- ---- ours, with what an accepted frame makes of a channel changed
+
+-- what a frame makes of channel c of a relay, from its settings, slot, whether the frame is counted, whether the channel is enabled, and its code
+abbrev Making : Type 0
+Making = Settings → ℕ → ℕ → Bool → Bool → ℕ → Channel → Channel
+
+module _ (make : Making) where
+  abbrev madeAt : Relay → List ℕ → ℕ → ℕ → Channel
+  madeAt r codes enable c = make (r .settings) c (r .slot) (counted r) (enabledIn enable c) (getD codes c 0) (channelAt r c)
+
+  abbrev framed : Relay → List ℕ → ℕ → FrameAnswer
+  framed r codes enable =
+      record {
+        relay = record {
+          channels = table 6 (madeAt r codes enable);
+          age = ageAfter (r .age);
+          slot = slotAfter (r .slot);
+          settings = r .settings;
+        };
+        refusal = 0;
+        amplitudes = table 6 (amplitudeIn (r .slot) codes (r .channels));
+        output = bitsBelow 6 (λ c. latchOn (madeAt r codes enable c) && enabledIn enable c);
+      }
+
+  abbrev pub making : Implementation
+  making =
+      record {
+        fresh = freshOf;
+        frame = λ r codes enable. cond {A = FrameAnswer} (eqb (frameRefusedBy codes enable) 0) (framed r codes enable)
+            (record { relay = r; refusal = frameRefusedBy codes enable; amplitudes = replicate 6 0; output = 0 });
+        reset = λ r mask. cond {A = ResetAnswer} (eqb (resetRefusedBy mask) 0) (acceptedReset r mask)
+            (record { relay = r; refusal = resetRefusedBy mask });
+      }
+
+  -- ---- a claim about each channel, its history of the calls, the age and the slot, that each call keeps
+
+  module _ (settings : Settings) (ok : AcceptedSettings settings) (Holds : ℕ → List Event → ℕ → ℕ → Channel → Type 0)
+      (at-fresh : (c : ℕ) → Holds c [] 0 0 freshChannel)
+      (at-frame : (c : ℕ) (es : List Event) (age slot code : ℕ) (channelBit bit6 : Bool) (ch : Channel) → Holds c es age slot ch
+      → Holds c (es ▷ sampled (record { sample = sampleOf code; channelBit = channelBit; bit6 = bit6 })) (ageAfter age) (slotAfter slot)
+      (make settings c slot (leb settled age) (channelBit && bit6) code ch))
+      (at-reset : (c : ℕ) (es : List Event) (age slot : ℕ) (ch : Channel) → Holds c es age slot ch → Holds c (es ▷ cleared) age slot (clearedOf ch))
+    where
+      pub record Is (calls : List Call) (r : Relay) : Type 0 where
+        pub channel : (c : ℕ) → c < 6 → Holds c (channelHistory c calls) (r .age) (r .slot) (channelAt r c)
+        pub kept : r .settings ≡ settings
+
+      fresh-so : Is [] (freshRelay settings)
+      unfolding freshRelay
+      fresh-so = record { channel = λ c h. rw (fresh-channel settings c h) (at-fresh c); kept = refl }
+
+      frame-so : (calls : List Call) (r : Relay) (codes : Codes) (enable : ℕ) → frameRefusedBy (codes .list) enable ≡ 0 → Is calls r
+          → Is (calls ++ (frame codes enable ∷ [])) (framed r (codes .list) enable .relay)
+      frame-so calls r codes enable e v =
+          record {
+            channel = λ c h. rw (getD-table 6 (madeAt r (codes .list) enable) noChannel c h, history-frame c calls codes enable e, v .kept)
+                (at-frame c (channelHistory c calls) (r .age) (r .slot) (getD (codes .list) c 0) (bitOf enable c) (bitOf enable 6) (channelAt r c)
+                (v .channel c h));
+            kept = v .kept;
+          }
+
+      reset-so : (calls : List Call) (r : Relay) (mask : ℕ) → resetRefusedBy mask ≡ 0 → Is calls r
+          → Is (calls ++ (reset mask ∷ [])) (acceptedReset r mask .relay)
+      unfolding acceptedReset resetChannel
+      reset-so calls r mask e v =
+          record {
+            channel = λ c h. rw (reset-channel r mask c h, history-reset c calls mask e) (named c (bitOf mask c) (v .channel c h));
+            kept = v .kept;
+          }
+        where
+          named : (c : ℕ) (b : Bool) → Holds c (channelHistory c calls) (r .age) (r .slot) (channelAt r c)
+              → Holds c (channelHistory c calls ++ cond b (cleared ∷ []) []) (r .age) (r .slot) (cond b (clearedOf (channelAt r c)) (channelAt r c))
+          named c true w = at-reset c (channelHistory c calls) (r .age) (r .slot) (channelAt r c) w
+          named c false w = rw append-nil w
+
+      call-so : (calls : List Call) (r : Relay) (call : Call) → Dec (refusalOf call ≡ 0) → Is calls r
+          → Is (calls ++ (call ∷ [])) (handedBack making r call)
+      call-so calls r (frame codes enable) (yes e) v = rw (handedBack, e) (frame-so calls r codes enable e v)
+      call-so calls r (frame codes enable) (no e) v = rw (handedBack, ne-eqb (frameRefusedBy (codes .list) enable) 0 e)
+          (record { channel = λ c h. rw (history-refused c calls (frame codes enable) e) (v .channel c h); kept = v .kept })
+      call-so calls r (reset mask) (yes e) v = rw (handedBack, e) (reset-so calls r mask e v)
+      call-so calls r (reset mask) (no e) v = rw (handedBack, ne-eqb (resetRefusedBy mask) 0 e)
+          (record { channel = λ c h. rw (history-refused c calls (reset mask) e) (v .channel c h); kept = v .kept })
+
+      from : (past calls : List Call) (r : Relay) → Is past r → Is (past ++ calls) (after making r calls)
+      from past [] r v = rw append-nil v
+      from past (call ∷ calls) r v =
+          rw (← append-assoc past (call ∷ []) calls)
+          (from (past ++ (call ∷ [])) calls (handedBack making r call) (call-so past r call (ℕ-discrete (refusalOf call) 0) v))
+
+      pub making-is : (calls : List Call) → Is calls (relayAfter making settings calls)
+      making-is calls = rw (fresh-is settings (settings-sound settings ok)) (from [] calls (freshRelay settings) fresh-so)
+
+-- ---- other kinds of run
+
+-- a kind of run for each channel, from the settings
+abbrev Kinds : Type 0
+Kinds = Settings → ℕ → Kind
+
+abbrev withKinds : Kinds → Kinds → Making
+withKinds lossKinds overKinds settings c = channelBy (lossKinds settings c) (overKinds settings c)
+
+module _ (lossKinds overKinds : Kinds) (loss-some : (s : Settings) (c : ℕ) → 0 < lossKinds s c .len)
+    (over-some : (s : Settings) (c : ℕ) → 0 < overKinds s c .len) (settings : Settings) (ok : AcceptedSettings settings) (calls : List Call) where
+  abbrev d : Implementation
+  d = making (withKinds lossKinds overKinds)
+
+  channel-is : (c : ℕ) → c < 6 → ChannelIs (lossKinds settings c) (overKinds settings c) (channelHistory c calls)
+      (relayAfter d settings calls .age) (relayAfter d settings calls .slot) (channelAt (relayAfter d settings calls) c)
+  channel-is =
+      making-is (withKinds lossKinds overKinds) settings ok (λ c. ChannelIs (lossKinds settings c) (overKinds settings c))
+      (λ c. channel-fresh (lossKinds settings c) (overKinds settings c) (loss-some settings c) (over-some settings c))
+      (λ c es age slot code channelBit bit6 ch.
+      channel-sampled (lossKinds settings c) (overKinds settings c) (loss-some settings c) (over-some settings c) es age slot ch code channelBit bit6)
+      (λ c. channel-cleared (lossKinds settings c) (overKinds settings c) (loss-some settings c) (over-some settings c)) calls .channel
+
+  -- their latches go by the rule with these kinds
+  loss-on : (c : ℕ) → c < 6 → T (lossAfter d settings calls c) ↔ LatchOn (lossKinds settings c) (channelHistory c calls)
+  loss-on c h = loss-rule (lossKinds settings c) (overKinds settings c) (loss-some settings c) (over-some settings c) (channel-is c h)
+
+  over-on : (c : ℕ) → c < 6 → T (overAfter d settings calls c) ↔ LatchOn (overKinds settings c) (channelHistory c calls)
+  over-on c h = over-rule (lossKinds settings c) (overKinds settings c) (loss-some settings c) (over-some settings c) (channel-is c h)
+
+-- a latch by one test is a latch by another that holds where the first does
+widened : (len : ℕ) (p q : List ℤ → Bool) (es : List Event) → ((w : List ℤ) → T (p w) → T (q w))
+    → LatchOn (record { len = len; meets = p }) es → LatchOn (record { len = len; meets = q }) es
+widened len p q es f (j, m) = (j, record { run = m .run; meets = λ n a b. f _ (m .meets n a b); afterLastReset = m .afterLastReset })
+
+-- channel k + 3 is current k
+back : (k : ℕ) → k ≡ k + 3 - 3
+back k = omega arith
+
+-- an over run by another test of current k; a voltage has none
+abbrev overTested : (ℕ → Settings → List ℤ → Bool) → Kinds
+overTested test settings c = record { len = 4; meets = λ w. leb 3 c && test (c - 3) settings w }
+
+abbrev tested : (ℕ → Settings → List ℤ → Bool) → Implementation
+tested test = making (withKinds lossOf (overTested test))
+
+tested-trips : (test : ℕ → Settings → List ℤ → Bool) (k : ℕ) → k < 3 → TripsBy (tested test) (k + 3) (test k)
+tested-trips test k h settings ok calls on =
+    over-on lossOf (overTested test) (λ s c. lit< tt) (λ s c. lit< tt) settings ok calls (k + 3) (omega arith) .1
+    (widened 4 (test k settings) (λ w. leb 3 (k + 3) && test (k + 3 - 3) settings w) (channelHistory (k + 3) calls)
+    (λ w t. yes-and (leb 3 (k + 3)) _ (le→leb 3 (k + 3) (omega arith)) (subst (λ (m : ℕ). T (test m settings w)) (back k) t)) on)
+
+-- the loss run under restraint too
+abbrev lossRestrained : Kinds
+lossRestrained settings c =
+    record { len = 16; meets = λ w. lossOf settings c .meets w && harmonicTest (levels settings c .restraint) w }
+
+abbrev lossToo : Implementation
+lossToo = making (withKinds lossRestrained overOf)
+
+restraint-of : (settings : Settings) (k : ℕ) → levels settings (k + 3) .restraint ≡ getD (settings .restraint) k 0
+restraint-of settings k = rw (le-leb 3 (k + 3) (omega arith)) (ap (λ (m : ℕ). getD (settings .restraint) m 0) (sym (back k)))
+
+loss-too : (k : ℕ) → k < 3 → RestrainsLoss lossToo k
+loss-too k h settings ok calls on =
+    rw (restraint-of settings k) at
+    (loss-on lossRestrained overOf (λ s c. lit< tt) (λ s c. lit< tt) settings ok calls (k + 3) (omega arith) .0 on)
+
+-- ---- a restrained frame leaves the run as it was
+
+-- m ≥ pickup, and the test does not hold
+abbrev heldBack : Settings → ℕ → List ℤ → Bool
+heldBack settings c w = leb 3 c && (leb (levels settings c .pickup) (amplitudeOf 1 w) && not (harmonicTest (levels settings c .restraint) w))
+
+abbrev keeps : Making
+keeps settings c slot counted enabled code ch =
+    let made : Channel = channelBy (lossOf settings c) (overOf settings c) slot counted enabled code ch in
+    record {
+      samples = made .samples;
+      «loss_run» = made .«loss_run»;
+      «over_run» = cond (counted && (enabled && heldBack settings c (made .samples))) (ch .«over_run») (made .«over_run»);
+      «loss_latch» = made .«loss_latch»;
+      «over_latch» = made .«over_latch»;
+    }
+
+T-is : (b : Bool) → T b → b ≡ true
+T-is true t = refl
+T-is false t = absurd t
+
+-- a window that feeds is not held back
+apart : (x a t : Bool) → x && (a && t) ≡ true → x && (a && not t) ≡ false
+apart true true true e = refl
+apart true true false e = absurd (false≢true e)
+apart true false t e = refl
+apart false a t e = refl
+
+-- a run at 4 turns the latch on
+latched : (latch : Bool) (run : ℕ) → run ≡ 4 → T (latch || eqb run 4)
+latched true run e = tt
+latched false run e = subst (λ (n : ℕ). T (eqb n 4)) (sym e) tt
+
+four : (run : ℕ) → 3 ≤ run → min 4 (suc run) ≡ 4
+four run h = omega arith
+
+-- A channel of it: frames that feed (F) and frames that are held back (H), each of which can stand in a full run after the last reset. The run is
+-- at least as long as the frames that fed at the end (at most 4), also where one more frame then was held back; and after three frames that fed,
+-- one held back and one that fed the latch is on.
+module _ (settings : Settings) (c : ℕ) where
+  abbrev F : Kind
+  F = overOf settings c
+
+  abbrev H : Kind
+  H = record { len = 4; meets = heldBack settings c }
+
+  record Kept (es : List Event) (age slot : ℕ) (ch : Channel) : Type 0 where
+    samples : ch .samples ≡ windowOf es (frames es)
+    aged : age ≡ min settled (frames es)
+    placed : slot ≡ frames es % 8
+    fed : (i : ℕ) → i ≤ frames es → InEach (frames es - i) i (Live F es) → min 4 i ≤ ch .«over_run»
+    held : (i last : ℕ) → suc last ≡ frames es → i ≤ last → InEach (last - i) i (Live F es) → Live H es last → min 4 i ≤ ch .«over_run»
+    on : (j : ℕ) → j + 5 ≡ frames es → InEach j 3 (Live F es) → Live H es (j + 3) → Live F es (j + 4) → T (ch .«over_latch»)
+
+  -- the start, and a reset: no frame is live
+  none-kept : (es : List Event) (age slot : ℕ) (ch : Channel) → ch .samples ≡ windowOf es (frames es) → age ≡ min settled (frames es)
+      → slot ≡ frames es % 8 → ((kind : Kind) (n : ℕ) → n < frames es → ¬ Live kind es n) → Kept es age slot ch
+  none-kept es age slot ch s a p none =
+      record {
+        samples = s;
+        aged = a;
+        placed = p;
+        fed = empty;
+        held = λ i last e l f h. absurd (none H last (omega arith) h);
+        on = λ j e f h g. absurd (none H (j + 3) (omega arith) h);
+      }
+    where
+      empty : (i : ℕ) → i ≤ frames es → InEach (frames es - i) i (Live F es) → min 4 i ≤ ch .«over_run»
+      empty zero l f = omega arith
+      empty (suc i) l f = absurd (none F (frames es - suc i) (omega arith) (f (frames es - suc i) (omega arith) (omega arith)))
+
+  kept-fresh : Kept [] 0 0 freshChannel
+  unfolding freshChannel windowOf table
+  kept-fresh = none-kept [] 0 0 freshChannel refl refl refl (λ kind n h. absurd (omega arith))
+
+  kept-cleared : (es : List Event) (age slot : ℕ) (ch : Channel) → Kept es age slot ch → Kept (es ▷ cleared) age slot (clearedOf ch)
+  kept-cleared es age slot ch v =
+      none-kept (es ▷ cleared) age slot (clearedOf ch) (v .samples ∙ rw (inputs-cleared es) (sym (window-cleared es (frames es))))
+      (rw (inputs-cleared es) (v .aged)) (rw (inputs-cleared es) (v .placed)) none
+    where
+      none : (kind : Kind) (n : ℕ) → n < frames (es ▷ cleared) → ¬ Live kind (es ▷ cleared) n
+      none kind n h b =
+          let l : n < frames es = rw inputs-cleared at h in
+          omega (arith, before-append es (cleared ∷ []) n l, b .3, resets-cleared es, before-le es n)
+
+  -- ---- a frame
+  module _ (es : List Event) (i : Input) (age : ℕ) (e : age ≡ min settled (frames es)) (w : List ℤ)
+      (q : w ≡ windowAt (es ▷ sampled i) (frames es)) where
+    abbrev next : List Event
+    next = es ▷ sampled i
+
+    abbrev enabled : Bool
+    enabled = i .channelBit && i .bit6
+
+    abbrev ran : ℕ → ℕ
+    ran run = cond (leb settled age && (enabled && heldBack settings c w)) run (runAfter (leb settled age) (enabled && F .meets w) 4 run)
+
+    is-counted : (kind : Kind) → Live kind next (frames es) → leb settled age ≡ true
+    is-counted kind l = le-leb settled age (omega (arith, l .0))
+
+    is-enabled : (kind : Kind) → Live kind next (frames es) → enabled ≡ true
+    is-enabled kind l = T-is enabled (rw input-last at (l .1))
+
+    is-met : (kind : Kind) → Live kind next (frames es) → kind .meets w ≡ true
+    is-met kind l = T-is (kind .meets w) (subst (λ (v : List ℤ). T (kind .meets v)) (sym q) (l .2))
+
+    grows : (run : ℕ) → Live F next (frames es) → runAfter (leb settled age) (enabled && F .meets w) 4 run ≡ min 4 (suc run)
+    grows run l = rw (is-counted F l, is-enabled F l, is-met F l)
+
+    fed-run : (run : ℕ) → Live F next (frames es) → ran run ≡ min 4 (suc run)
+    fed-run run l =
+        rw (
+          is-counted F l,
+          is-enabled F l,
+          is-met F l,
+          apart (leb 3 c) (leb (levels settings c .pickup) (amplitudeOf 1 w))
+              (harmonicTest (levels settings c .restraint) w) (is-met F l),
+        )
+
+    held-run : (run : ℕ) → Live H next (frames es) → ran run ≡ run
+    held-run run l = rw (is-counted H l, is-enabled H l, is-met H l)
+
+    before : (kind : Kind) (n : ℕ) → n < frames es → Live kind next n → Live kind es n
+    before kind n h = live-same kind es i n h .1
+
+  kept-sampled : (es : List Event) (age slot code : ℕ) (channelBit bit6 : Bool) (ch : Channel) → Kept es age slot ch
+      → Kept (es ▷ sampled (record { sample = sampleOf code; channelBit = channelBit; bit6 = bit6 })) (ageAfter age) (slotAfter slot)
+      (keeps settings c slot (leb settled age) (channelBit && bit6) code ch)
+  unfolding nextRun
+  kept-sampled es age slot code channelBit bit6 ch v =
+      record {
+        samples = window ∙ rw frames-sampled;
+        aged = rw frames-sampled (age-step age (frames es) (v .aged));
+        placed = rw frames-sampled (slot-step slot (frames es) (v .placed));
+        fed = rw frames-sampled fed;
+        held = rw frames-sampled held;
+        on = rw frames-sampled on;
+      }
+    where
+      ev : Input
+      ev = record { sample = sampleOf code; channelBit = channelBit; bit6 = bit6 }
+
+      n : ℕ
+      n = frames es
+
+      run : ℕ
+      run = ch .«over_run»
+
+      w : List ℤ
+      w = set (ch .samples) slot (sampleOf code)
+
+      window : w ≡ windowAt (es ▷ sampled ev) (frames es)
+      window = ap₂ (λ (u : List ℤ) (k : ℕ). set u k (sampleOf code)) (v .samples) (v .placed) ∙ window-sampled es ev
+
+      run′ : ℕ
+      run′ = ran es ev age (v .aged) w window run
+
+      fed : (i : ℕ) → i ≤ suc n → InEach (suc n - i) i (Live F (es ▷ sampled ev)) → min 4 i ≤ run′
+      fed zero l f = omega arith
+      fed (suc i) l f =
+          let old : min 4 i ≤ run = v .fed i (omega arith)
+          (λ m a b. before es ev age (v .aged) w window F m (omega arith) (f m (omega arith) (omega arith))) in
+          omega (arith, fed-run es ev age (v .aged) w window run (f n (omega arith) (omega arith)))
+
+      held : (i last : ℕ) → suc last ≡ suc n → i ≤ last → InEach (last - i) i (Live F (es ▷ sampled ev)) → Live H (es ▷ sampled ev) last
+          → min 4 i ≤ run′
+      held i last q l f h =
+          let same : last ≡ n = omega arith in
+          let old : min 4 i ≤ run = v .fed i (omega arith)
+          (λ m a b. before es ev age (v .aged) w window F m (omega arith) (f m (omega arith) (omega arith))) in
+          omega (arith, held-run es ev age (v .aged) w window run (subst (Live H (es ▷ sampled ev)) same h))
+
+      on : (j : ℕ) → j + 5 ≡ suc n → InEach j 3 (Live F (es ▷ sampled ev)) → Live H (es ▷ sampled ev) (j + 3) → Live F (es ▷ sampled ev) (j + 4)
+          → T (nextLatch F (runAfter (leb settled age) ((channelBit && bit6) && F .meets w) 4 run) (ch .«over_latch»))
+      on j q f h g =
+          let three : 3 ≤ run = v .held 3 (j + 3) (omega arith) (omega arith)
+          (λ m a b. before es ev age (v .aged) w window F m (omega arith) (f m (omega arith) (omega arith)))
+          (before es ev age (v .aged) w window H (j + 3) (omega arith) h) in
+          let last : j + 4 ≡ n = omega arith in
+          latched (ch .«over_latch») _ (grows es ev age (v .aged) w window run (subst (Live F (es ▷ sampled ev)) last g) ∙ four run three)
+
+-- the relay whose runs are kept fits its kind
+keeps-run : (k : ℕ) → k < 3 → KeepsRun (making keeps) k
+keeps-run k h settings ok calls j e run after fed over not-fed last =
+    v .on j e (λ n a b. live n a (omega arith) (feeds n (fed n a b))) held-at (live (j + 4) (omega arith) (omega arith) (feeds (j + 4) last))
+  where
+    es : List Event
+    es = channelHistory (k + 3) calls
+
+    v : Kept settings (k + 3) es (relayAfter (making keeps) settings calls .age) (relayAfter (making keeps) settings calls .slot)
+        (channelAt (relayAfter (making keeps) settings calls) (k + 3))
+    v = making-is keeps settings ok (λ c. Kept settings c) (λ c. kept-fresh settings c) (λ c. kept-sampled settings c) (λ c. kept-cleared settings c)
+        calls .channel (k + 3) (omega arith)
+
+    three : leb 3 (k + 3) ≡ true
+    three = le-leb 3 (k + 3) (omega arith)
+
+    -- the tests of current k are those of channel k + 3
+    feeds : (n : ℕ) → T (overBy k k settings (windowAt es n)) → T (overOf settings (k + 3) .meets (windowAt es n))
+    feeds n t = rw (three, ← back k) t
+
+    holds-back : (a b : Bool) → T a → ¬ T (a && b) → T (a && not b)
+    holds-back true true t f = absurd (f tt)
+    holds-back true false t f = tt
+    holds-back false b t f = absurd t
+
+    held-at : Live (H settings (k + 3)) es (j + 3)
+    held-at =
+        let r : InRun es j (j + 3) = run .each (j + 3) (omega arith) (omega arith) in (
+          r .counted,
+          r .enabled,
+          rw (three, ← back k) (holds-back (overPickup k settings (windowAt es (j + 3)))
+              (harmonicTest (getD (settings .restraint) k 0) (windowAt es (j + 3))) over not-fed),
+          r .notSeparated ∙ after,
+        )
+
+    live : (n : ℕ) → j ≤ n → n < j + 5 → T (overOf settings (k + 3) .meets (windowAt es n)) → Live (F settings (k + 3)) es n
+    live n a b t = (run .each n a b .counted, run .each n a b .enabled, t, run .each n a b .notSeparated ∙ after)
+
+-- ---- one relay of each kind
+
+pub record RestraintOnes : Type 0 where
+  pub ignored : Wrong (tested overPickup)
+  pub at-most : Wrong (tested overAtMost)
+  pub third : Wrong (tested overByThird)
+  pub loss-restrained : Wrong lossToo
+  -- each takes the restraint of the next
+  pub neighbours : Wrong (tested (λ k. overBy (suc k % 3) k))
+  pub run-kept : Wrong (making keeps)
+
+pub restraint-ones : RestraintOnes
+restraint-ones =
+    record {
+      ignored = ignoresRestraint 0 (lit< tt) (tested-trips overPickup 0 (lit< tt));
+      at-most = notStrict 0 (lit< tt) (tested-trips overAtMost 0 (lit< tt));
+      third = thirdHarmonic 0 (lit< tt) (tested-trips overByThird 0 (lit< tt));
+      loss-restrained = restrainsLoss 0 (lit< tt) (loss-too 0 (lit< tt));
+      neighbours = anothersRestraint 0 1 (lit< tt) (lit< tt) (λ e. absurd (omega arith)) (tested-trips (λ k. overBy (suc k % 3) k) 0 (lit< tt));
+      run-kept = keepsRun 0 (lit< tt) (keeps-run 0 (lit< tt));
+    }
