@@ -115,15 +115,20 @@ def exact(w):
 
 
 def channel(calls, pickup, drop, r=0):
-    """One current channel by document 01 and Paper 8. A call is (sample, enabled) or 'reset'.
+    """One current channel by document 01 and Papers 5 and 8. A call is (sample, its bit), with bit 6 on, (sample, its bit, bit 6) or 'reset'.
     For each frame: m, over latch, loss latch, output bit, and the whole state that the next call finds."""
     w, age, slot, over, loss, lo, ll, out = [0] * 8, 0, 0, 0, 0, False, False, []
+    was = True
     for c in calls:
         if c == 'reset':
             over = loss = 0
             lo = ll = False
             continue
-        s, on = c
+        s, device = c[0], c[2] if len(c) > 2 else True
+        on = c[1] and device
+        if device and not was:
+            age = 0
+        was = device
         w[slot] = s
         m = amplitude(w)
         if age < SETTLED:
@@ -135,7 +140,7 @@ def channel(calls, pickup, drop, r=0):
             over = min(OVER, over + 1) if m >= pickup and (r == 0 or 100 * second(w) < r * m) else 0
         ll, lo = ll or loss == LOSS, lo or over == OVER
         slot = (slot + 1) % 8
-        out.append((m, lo, ll, (lo or ll) and on, (tuple(w), age, slot, over, loss, lo, ll)))
+        out.append((m, lo, ll, (lo or ll) and on, (tuple(w), age, slot, was, over, loss, lo, ll)))
     return out
 
 
@@ -224,7 +229,8 @@ def opening():
     print('  bench figures 0, 0, 1603, 400, 399, frames 75, none, 87:', got, over[0], never, loss[0])
     assert (got, over[0], never, loss[0]) == ([0, 0, 1603, 400, 399], 75, [], 87)
     say('full scale (512 codes) is %s. A frame is 1/480 s = %s ms, a cycle 8 frames' % (num(FULL), num(1000 / 480, 3)))
-    cite("document 01's and Paper 8's (document 02)", 'r (section 8) is 0 unless named', 'Documents 000 to 004', '"(02)"', 'document 02')
+    cite("document 01's and those of Papers 5 and 8 (document 02)", 'r (section 8) is 0 unless named', 'Documents 000 to 004', '"(02)"',
+         'document 02')
 
 
 def bandpass(f):
@@ -529,6 +535,7 @@ def onset():
     loss = next(k for k, r in enumerate(channel(enabled([0] * 120), 1, 1)) if r[2])
     say('Frames 0 to %d (%s s) count no run: the earliest over latch is in frame %d (%s ms after frame 0), loss in frame %d (%s ms)'
         % (SETTLED - 1, num(SETTLED / 480, 2), over, num(over / 0.48), loss, num(loss / 0.48)))
+    cite('The same again from each frame in which bit 6 returns (section 9)')
 
 
 def pulses(peak, width, p, a=0.0, q=0.0):
@@ -714,8 +721,26 @@ def switches():
         late.add(next(k - at + 1 for k, r in enumerate(channel([(s, n >= at) for n, s in enumerate(wave(160))], 3413, 1)) if r[1]))
     assert len(back) == len(late) == 1
     say('Enable bit or bit 6 off: runs become 0 in counted frames and the output bit is 0')
-    say('over latches in the %dth enabled frame, without a new start delay (02 changes this for bit 6)'
-        % late.pop())
+    cite("A latched output returns with the enable, bit 6 or the channel's own")
+    say('over latches in the %dth enabled frame, without a new start delay' % late.pop())
+    # bit 6 off for 1, 10 or 100 frames and back in frame `at`, in front of every slot
+    again, shown = set(), set()
+    for at in range(212, 220):
+        for gap in (1, 10, 100):
+            device = lambda n: not at - gap <= n < at
+            over = channel([(s if n >= at - gap else 0, True, device(n)) for n, s in enumerate(wave(at + 100))], 3413, 1)
+            dead = channel([(0 if n >= at - gap else s, True, device(n)) for n, s in enumerate(wave(at + 100))], 3413, 819)
+            again.add((next(k - at for k, r in enumerate(over) if r[1]), next(k - at for k, r in enumerate(dead) if k >= at and r[2])))
+            shown.add(dead[at][3] and dead[at - gap - 1][3] and not dead[at - 1][3])
+    assert len(again) == 1 and shown == {True}
+    frame = again.pop()
+    say('After bit 6 (Paper 5) the relay settles anew for %d frames (%s s): with current flowing over latches %d frames (%s ms) after the return, '
+        'loss %d (%s ms)' % (SETTLED, num(SETTLED / 480, 2), frame[0], num(frame[0] / 0.48), frame[1], num(frame[1] / 0.48)))
+    # bit 6 off in one frame of every p
+    blink = lambda p, samples, drop: channel([(s, True, n % p > 0) for n, s in enumerate(samples)], 3413, drop)
+    blind = [max(p for p in range(2, 120) if not any(r[i] for r in blink(p, samples, drop)))
+             for i, samples, drop in ((1, wave(600), 1), (2, [0] * 600, 819))]
+    say('With bit 6 off for one frame in every %d or fewer, over never latches, and in every %d or fewer loss does not' % tuple(blind))
     say('over is back in the %dth frame, loss in the %dth' % back.pop())
     say('A refused frame (any code above 1023, enable bit 7) is lost to all six channels')
     # after the loss slot k gets what belonged to slot k + 1

@@ -1,6 +1,6 @@
-/* Uses the archive as a firmware team would: a relay is made, fed and reset, a harmonic is measured and restrains, a
- * recording is written, read back, searched and reported. The values are document 01's bench figures; each refusal
- * occurs, with all that it answers. It says `ok`, or what failed. */
+/* Uses the archive as a firmware team would: a relay is made, fed and reset, and settles again after the device switch;
+ * a harmonic is measured and restrains; a recording is written, read back, searched and reported. The values are
+ * document 01's bench figures; each refusal occurs, with all that it answers. It says `ok`, or what failed. */
 #include "export.h"
 
 #include <stdio.h>
@@ -11,12 +11,13 @@ _Static_assert(offsetof(p6k_channel, loss_run) == 16 && offsetof(p6k_channel, ov
 _Static_assert(offsetof(p6k_channel, loss_latch) == 18 && offsetof(p6k_channel, over_latch) == 19, "layout");
 _Static_assert(sizeof(p6k_settings) == 22 && offsetof(p6k_settings, pickup) == 12, "layout");
 _Static_assert(offsetof(p6k_settings, restraint) == 18 && sizeof(p6k_codes) == 12, "layout");
-_Static_assert(sizeof(p6k_relay) == 144 && offsetof(p6k_relay, age) == 120, "layout");
-_Static_assert(offsetof(p6k_relay, slot) == 121 && offsetof(p6k_relay, settings) == 122, "layout");
-_Static_assert(sizeof(p6k_fresh_answer) == 146 && offsetof(p6k_fresh_answer, refusal) == 144, "layout");
-_Static_assert(sizeof(p6k_reset_answer) == 146 && offsetof(p6k_reset_answer, refusal) == 144, "layout");
-_Static_assert(sizeof(p6k_frame_answer) == 160 && offsetof(p6k_frame_answer, refusal) == 144, "layout");
-_Static_assert(offsetof(p6k_frame_answer, amplitudes) == 146 && offsetof(p6k_frame_answer, output) == 158, "layout");
+_Static_assert(sizeof(p6k_relay) == 146 && offsetof(p6k_relay, age) == 120, "layout");
+_Static_assert(offsetof(p6k_relay, slot) == 121 && offsetof(p6k_relay, device_on) == 122, "layout");
+_Static_assert(offsetof(p6k_relay, settings) == 124, "layout");
+_Static_assert(sizeof(p6k_fresh_answer) == 148 && offsetof(p6k_fresh_answer, refusal) == 146, "layout");
+_Static_assert(sizeof(p6k_reset_answer) == 148 && offsetof(p6k_reset_answer, refusal) == 146, "layout");
+_Static_assert(sizeof(p6k_frame_answer) == 162 && offsetof(p6k_frame_answer, refusal) == 146, "layout");
+_Static_assert(offsetof(p6k_frame_answer, amplitudes) == 148 && offsetof(p6k_frame_answer, output) == 160, "layout");
 _Static_assert(sizeof(p6k_samples) == 16 && sizeof(p6k_estimate_answer) == 4, "layout");
 _Static_assert(offsetof(p6k_estimate_answer, amplitude) == 2, "layout");
 _Static_assert(sizeof(p6k_answer) == 16 && offsetof(p6k_answer, count) == 8, "layout");
@@ -65,10 +66,11 @@ static p6k_settings restrained(uint16_t drop, uint16_t pickup, uint8_t restraint
     return settings;
 }
 
-/* Relays are the same in all but padding: nothing but the last byte is. */
+/* Relays are the same in all but padding: the byte before the settings and the last one. */
 static bool same(p6k_relay a, p6k_relay b)
 {
-    return memcmp(&a, &b, offsetof(p6k_relay, settings) + offsetof(p6k_settings, restraint) + 3) == 0;
+    return memcmp(&a, &b, offsetof(p6k_relay, device_on) + sizeof a.device_on) == 0 &&
+           memcmp(&a.settings, &b.settings, offsetof(p6k_settings, restraint) + sizeof a.settings.restraint) == 0;
 }
 
 /* The first of 100 frames of a wave after which channel c shows in the output, 100 if none does. */
@@ -128,6 +130,72 @@ static int relays(void)
     CHECK(!reset.relay.channels[3].over_latch && reset.relay.channels[3].over_run == 0);
     CHECK(reset.relay.channels[2].loss_latch && reset.relay.age == 72);
     CHECK(p6k_frame(reset.relay, codes_at(90), 0x7F).output == 0x37);
+    return 0;
+}
+
+/* The relay after frames `first` to `last` of the wave. */
+static p6k_relay after(p6k_relay relay, unsigned first, unsigned last, uint8_t enable)
+{
+    for (unsigned n = first; n <= last; n++)
+        relay = p6k_frame(relay, codes_at(n), enable).relay;
+    return relay;
+}
+
+/* Bit 6 goes off and on again: frame 100 is the first with it on, so that frames 100 to 171 are not counted. */
+static int settling(void)
+{
+    p6k_relay fresh = p6k_fresh(settings_of(1, 1603)).relay;
+    CHECK(fresh.device_on && fresh.age == 0);
+    CHECK(!p6k_fresh(settings_of(0, 1603)).relay.device_on);
+    p6k_relay tripped = after(fresh, 0, 89, 0x7F);
+    CHECK(tripped.device_on && tripped.age == 72);
+    CHECK(tripped.channels[3].over_run == 4 && tripped.channels[3].over_latch);
+
+    p6k_relay off = after(tripped, 90, 99, 0x3F);
+    CHECK(!off.device_on && off.age == 72 && off.channels[3].over_run == 0 && off.channels[3].over_latch);
+    p6k_codes wrong = codes_at(100);
+    wrong.codes[0] = 1024;
+    CHECK(same(p6k_frame(off, wrong, 0x7F).relay, off) && same(p6k_frame(off, codes_at(100), 0xFF).relay, off));
+    CHECK(same(p6k_frame(tripped, wrong, 0x3F).relay, tripped));
+    CHECK(p6k_reset(tripped, 0x3F).relay.device_on);
+    p6k_reset_answer reset = p6k_reset(off, 0x3F);
+    CHECK(reset.refusal == P6K_ACCEPTED && !reset.relay.device_on && reset.relay.age == 72);
+
+    /* A latch that is on shows while the relay settles. */
+    p6k_frame_answer risen = p6k_frame(off, codes_at(100), 0x7F);
+    CHECK(risen.refusal == P6K_ACCEPTED && risen.output == 0x3F && risen.amplitudes[3] == 1603);
+    CHECK(risen.relay.device_on && risen.relay.age == 1);
+
+    p6k_relay relay = p6k_frame(reset.relay, codes_at(100), 0x7F).relay;
+    CHECK(relay.device_on && relay.age == 1 && relay.channels[3].over_run == 0);
+    relay = after(relay, 101, 170, 0x7F);
+    CHECK(relay.age == 71);
+    relay = after(relay, 171, 171, 0x7F);
+    CHECK(relay.age == 72 && relay.channels[3].over_run == 0 && relay.channels[0].loss_run == 0);
+    relay = after(relay, 172, 172, 0x7F);
+    CHECK(relay.age == 72 && relay.channels[3].over_run == 1 && relay.channels[0].loss_run == 1);
+    relay = after(relay, 173, 174, 0x7F);
+    CHECK(!relay.channels[3].over_latch && p6k_frame(relay, codes_at(175), 0x7F).output == 0x08);
+    relay = after(relay, 175, 186, 0x7F);
+    CHECK(!relay.channels[0].loss_latch && p6k_frame(relay, codes_at(187), 0x7F).output == 0x3F);
+
+    /* A rise before the relay has settled, and a second one. */
+    relay = after(after(fresh, 0, 9, 0x7F), 10, 10, 0x3F);
+    CHECK(relay.age == 11);
+    relay = after(relay, 11, 11, 0x7F);
+    CHECK(relay.age == 1);
+    relay = after(after(after(relay, 12, 60, 0x7F), 61, 61, 0x00), 62, 62, 0x40);
+    CHECK(relay.age == 1 && relay.device_on);
+
+    /* Off in frame 0, on in frame 1: a rise as well. Off throughout: none. */
+    CHECK(after(after(fresh, 0, 0, 0x3F), 1, 1, 0x7F).age == 1 && after(fresh, 0, 1, 0x3F).age == 2);
+
+    /* The rise clears no run that is handed in, and counts none. */
+    relay = off;
+    relay.channels[3] = fresh.channels[3];
+    relay.channels[3].over_run = 3;
+    relay = after(relay, 100, 100, 0x7F);
+    CHECK(relay.channels[3].over_run == 3 && !relay.channels[3].over_latch);
     return 0;
 }
 
@@ -243,7 +311,7 @@ static int reports(void)
 
 int main(void)
 {
-    if (relays() || harmonics() || captures() || reports())
+    if (relays() || settling() || harmonics() || captures() || reports())
         return 1;
     puts("c/calls.c: ok");
     return 0;

@@ -11,8 +11,8 @@
  *  - a bool is 0 or 1: a relay that was read from elsewhere, byte by byte, has to be looked at first;
  *  - the program is compiled for x86-64 with the System V calling convention, as the archive is.
  * The functions keep nothing between calls, allocate nothing and may be called from several threads at once. Of the C
- * library they need memcpy alone. What an answer's padding holds is not promised: p6k_settings ends in a byte of it, so
- * relays are compared field by field.
+ * library they need memcpy alone. What an answer's padding holds is not promised: p6k_relay has a byte of it before its
+ * settings, and p6k_settings ends in one, so relays are compared field by field.
  *
  * This file is written by hand. c/calls.c checks sizes, places of fields and the numbers, c/stack.c the stack, and
  * the tests each function's answers. */
@@ -86,8 +86,9 @@ typedef struct {
 /* The relay goes in and comes back by value; the caller keeps it. */
 typedef struct {
     p6k_channel channels[6];
-    uint8_t age;  /* 0 to 72 */
-    uint8_t slot; /* 0 to 7 */
+    uint8_t age;    /* 0 to 72 */
+    uint8_t slot;   /* 0 to 7 */
+    bool device_on; /* bit 6 of the latest accepted frame's enable byte; true in a fresh relay */
     p6k_settings settings;
 } p6k_relay;
 
@@ -144,8 +145,8 @@ typedef struct {
 /* A fresh relay. Checks 1, 20; refused: the all-zero relay. */
 p6k_fresh_answer p6k_fresh(p6k_settings settings);
 
-/* One frame. enable: bits 0 to 5 enable channels, bit 6 the device. Checks 2, 3, 4; refused: the relay as given,
- * amplitudes and output 0. */
+/* One frame. enable: bits 0 to 5 enable channels, bit 6 the device; with bit 6 on after a frame with it off, the relay
+ * settles again, from age 0. Checks 2, 3, 4; refused: the relay as given, amplitudes and output 0. */
 p6k_frame_answer p6k_frame(p6k_relay relay, p6k_codes codes, uint8_t enable);
 
 /* Clears runs and latches of the channels that mask's bits 0 to 5 name. Checks 2, 5; refused: the relay as given. */

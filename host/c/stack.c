@@ -107,8 +107,8 @@ static void frame_and_reset(void)
     refusals[cleared.refusal]++;
 }
 
-/* Relays without restraint and with it that are fresh, settled, tripped and not sound, and what refuses a frame or a
- * reset. */
+/* Relays without restraint and with it that are fresh, settled, tripped, settling again and not sound, and what refuses
+ * a frame or a reset. */
 static void relays(uint8_t restraint)
 {
     for (int c = 0; c < 6; c++)
@@ -122,7 +122,7 @@ static void relays(uint8_t restraint)
     for (unsigned n = 0; n < 200; n++) {
         for (unsigned c = 0; c < 6; c++)
             codes.codes[c] = (uint16_t)(n % 8 < 4 ? 1023 : 0);
-        enable = n % 50 == 0 ? 0 : 0x7F;
+        enable = n % 100 == 50 ? 0 : 0x7F;
         mask = (uint8_t)(n % 64);
         frame_and_reset();
         relay = framed.relay;

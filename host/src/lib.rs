@@ -74,13 +74,15 @@ pub struct Settings {
     pub restraint: [u8; 3],
 }
 
-/// Any value may be handed in: a relay that is not sound is refused and comes back as it was.
+/// Any value may be handed in: a relay that is not sound is refused and comes back as it was. `device_on` is bit 6 of
+/// the latest accepted frame's enable byte; a fresh relay has it on.
 #[repr(C)]
 #[derive(Clone, Copy, Debug, Default, PartialEq, Eq)]
 pub struct Relay {
     pub channels: [Channel; 6],
     pub age: u8,
     pub slot: u8,
+    pub device_on: bool,
     pub settings: Settings,
 }
 
@@ -173,7 +175,8 @@ impl Relay {
         unsafe { raw::p6k_fresh(settings) }
     }
 
-    /// One frame: six codes in channel order and the enable byte.
+    /// One frame: six codes in channel order and the enable byte. With bit 6 on after a frame with it off the relay
+    /// settles again, from age 0.
     pub fn frame(self, codes: [u16; 6], enable: u8) -> FrameAnswer {
         unsafe { raw::p6k_frame(self, raw::Codes { codes }, enable) }
     }

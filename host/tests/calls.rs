@@ -1,12 +1,14 @@
-//! Fresh, frame, reset and estimate of the archive against the second implementation: random lists of calls on relays that the archive itself
-//! hands back, with refused calls and resets among them, levels next to the amplitudes and restraint next to the second harmonic; single calls
-//! on relays that a caller made up; and estimates. Every answer is compared whole. `cargo test --release --test calls -- --long` runs twenty
-//! times as much.
+//! Fresh, frame, reset and estimate of the archive against the second implementation: random lists of calls on relays
+//! that the archive itself hands back, with refused calls and resets among them, levels next to the amplitudes,
+//! restraint next to the second harmonic, and the device switched off and on; single calls on relays that a caller made
+//! up; and estimates. Every answer is compared whole. `cargo test --release --test calls -- --long` runs twenty times
+//! as much.
 
 mod support;
 
 use reference::prng::Prng;
-use reference::relay::{is_enabled, is_sound, FIRST_CURRENT, FULL_AGE, HIGHEST_LEVEL, HIGHEST_RESTRAINT};
+use reference::relay::{frame_refusal, is_enabled, is_sound, reset_refusal};
+use reference::relay::{FIRST_CURRENT, FULL_AGE, HIGHEST_LEVEL, HIGHEST_RESTRAINT};
 use reference::{amplitude, amplitude_of_order, Call, Exact, History, Latch, Settings};
 use support::{Flags, Refusals};
 
@@ -22,6 +24,9 @@ struct Seen {
     returned: u64,
     by_history: u64,
     restraint: Restraint,
+    settling: Settling,
+    /// Accepted frames with bit 6 on for a relay handed in that remembers it as off, at age 72 and with a run above 0.
+    runs_kept: u64,
     /// Relays handed in that r above 100 alone makes unsound: below 255, and 255.
     by_restraint: [u64; 2],
     /// Accepted estimates by order.
@@ -37,6 +42,26 @@ struct Restraint {
     by_equality: u64,
 }
 
+/// The device switch in the lists. A rise, frame T, has bit 6 on after a frame with it off; a fall is the other way.
+#[derive(Clone, Copy, Default)]
+struct Settling {
+    falls: u64,
+    /// Rises that found age 72, and rises that found less.
+    rises: [u64; 2],
+    /// Rises fewer than 72 frames after one before.
+    again: u64,
+    /// Refused frames that would tell if they were remembered: with bit 6 on between two frames with it off, with it
+    /// off between two with it on, and with it on between one with it off and a rise.
+    refused: [u64; 3],
+    /// Rises with an accepted reset between them and the frame with bit 6 off.
+    resets: u64,
+    /// Loss and over latches that went on after a rise, and how many of them as soon as can be, in T + 87 and T + 75.
+    latched: [u64; 2],
+    at_once: [u64; 2],
+    /// Frames whose output byte is another on a relay that does not settle again.
+    changed: u64,
+}
+
 /// The second implementation's settings and relay as the archive's.
 fn settings_of(of: &reference::Settings) -> host::Settings {
     host::Settings { drop: of.drop, pickup: of.pickup, restraint: of.restraint }
@@ -50,7 +75,7 @@ fn relay_of(of: &reference::Relay) -> host::Relay {
         loss_latch: channel.loss_latch,
         over_latch: channel.over_latch,
     });
-    host::Relay { channels, age: of.age, slot: of.slot, settings: settings_of(&of.settings) }
+    host::Relay { channels, age: of.age, slot: of.slot, device_on: of.device_on, settings: settings_of(&of.settings) }
 }
 
 /// A steady wave of period eight, its second harmonic, and some noise.
@@ -147,16 +172,63 @@ fn fresh_of_any(prng: &mut Prng, seen: &mut Seen) {
     fresh(if prng.once_in(2) { spoiled(settings, prng) } else { settings }, seen);
 }
 
+/// Bit 6 in the accepted frames of a list, and for how many more it stays so. In a third of the lists it is always on.
+struct Switch {
+    on: bool,
+    left: Option<i64>,
+}
+
+impl Switch {
+    fn random(prng: &mut Prng) -> Switch {
+        let left = match prng.below(12) {
+            0..=3 => None,
+            // Off in frame 0, after which on in frame 1 is a rise.
+            4 => Some(0),
+            _ => Some(prng.within(1, 140)),
+        };
+        Switch { on: true, left }
+    }
+
+    fn turns(&self) -> bool {
+        self.left == Some(0)
+    }
+
+    /// On for less than the relay needs to settle, for about as long, or for so long that latches go on; off mostly for
+    /// a few frames.
+    fn turn(&mut self, prng: &mut Prng) {
+        self.on = !self.on;
+        self.left = Some(match (self.on, prng.below(6)) {
+            (true, 0) => prng.within(1, 70),
+            (true, 1) => prng.within(71, 78),
+            (true, _) => prng.within(76, 180),
+            (false, 0) => prng.within(60, 80),
+            (false, 1 | 2) => 1,
+            (false, _) => prng.within(2, 8),
+        });
+    }
+
+    fn next(&mut self, prng: &mut Prng) {
+        if self.turns() {
+            self.turn(prng);
+        }
+        self.left = self.left.map(|left| left - 1);
+    }
+}
+
 /// What the calls of one list are made from.
 struct Source {
     waves: [Wave; 6],
-    enable: u8,
+    /// Bits 0 to 5 of the enable byte.
+    channels: u8,
+    switch: Switch,
     frames: usize,
 }
 
 impl Source {
+    /// Resets and refused frames come more often where the device is about to be switched.
     fn call(&mut self, prng: &mut Prng) -> Call {
-        if prng.once_in(30) {
+        let turns = self.switch.turns();
+        if prng.once_in(if turns { 4 } else { 30 }) {
             let mask = match prng.below(5) {
                 0 => prng.below(256),
                 1 => prng.below(64),
@@ -173,26 +245,29 @@ impl Source {
             self.waves[prng.below(6) as usize] = Wave::random(prng);
         }
         if prng.once_in(25) {
-            self.enable = if prng.once_in(2) { 0x7F } else { 0x7F ^ 1 << prng.below(7) };
+            self.channels = if prng.once_in(2) { 0x3F } else { 0x3F ^ 1 << prng.below(6) };
         }
         let mut codes = self.waves.map(|wave| wave.code(self.frames, prng));
-        let mut enable = self.enable;
-        if prng.once_in(50) {
-            codes[prng.below(6) as usize] = [1024, 1025, 2048, 65_535][prng.below(4) as usize];
+        let share = if turns { 6 } else { 50 };
+        let (bad_code, bad_enable) = (prng.once_in(share), prng.once_in(share));
+        if bad_code || bad_enable {
+            if bad_code {
+                codes[prng.below(6) as usize] = [1024, 1025, 2048, 65_535][prng.below(4) as usize];
+            }
+            // With either bit 6: it is not remembered.
+            let device = u8::from(prng.once_in(2)) << 6;
+            return Call::Frame { codes, enable: u8::from(bad_enable) << 7 | device | self.channels };
         }
-        if prng.once_in(50) {
-            enable |= 0x80;
-        }
-        if reference::relay::frame_refusal(&codes, enable) == 0 {
-            self.frames += 1;
-        }
-        Call::Frame { codes, enable }
+        self.switch.next(prng);
+        self.frames += 1;
+        Call::Frame { codes, enable: u8::from(self.switch.on) << 6 | self.channels }
     }
 }
 
 /// A list of calls on one relay. Where asked, the archive's answers are held to the history of the list too.
 fn list(prng: &mut Prng, seen: &mut Seen, by_history: bool) {
-    let mut source = Source { waves: std::array::from_fn(|_| Wave::random(prng)), enable: 0x7F, frames: 0 };
+    let waves = std::array::from_fn(|_| Wave::random(prng));
+    let mut source = Source { waves, channels: 0x3F, switch: Switch::random(prng), frames: 0 };
     let drop = source.waves.map(|wave| level(&wave, prng));
     let pickup = std::array::from_fn(|k| level(&source.waves[FIRST_CURRENT + k], prng));
     let restraint = std::array::from_fn(|k| restraint(&source.waves[FIRST_CURRENT + k], prng));
@@ -205,11 +280,16 @@ fn list(prng: &mut Prng, seen: &mut Seen, by_history: bool) {
     // After refusals 1 and 20 the all-zero relay is handed on: each call is refused by 2.
     let length = if made.refusal == 0 { prng.below(500) } else { 10 };
     let mut step = Step { ours: made.relay, theirs: expected.relay, shown: 0, hidden: 0 };
+    let mut watch = Watch::of(expected.relay);
     let mut calls = Vec::new();
     let mut answers = Vec::new();
     for _ in 0..length {
         let call = source.call(prng);
+        let before = step.theirs;
         let output = step.make(call, seen);
+        if made.refusal == 0 {
+            watch.look_at(call, &before, &step.ours, output, &mut seen.settling);
+        }
         if by_history && made.refusal == 0 {
             calls.push(call);
             answers.push((output, step.ours));
@@ -242,8 +322,9 @@ impl Step {
                 self.theirs = expected.relay;
                 self.ours = answer.relay;
                 if answer.refusal == 0 {
-                    self.look_at(&answer, before.age == FULL_AGE, enable, seen);
-                    seen.restraint.look_at(&answer, before.age == FULL_AGE, enable);
+                    let counted = before.age == FULL_AGE && !is_rise(&before, enable);
+                    self.look_at(&answer, counted, enable, seen);
+                    seen.restraint.look_at(&answer, counted, enable);
                 }
                 (answer.refusal, answer.output)
             }
@@ -288,6 +369,72 @@ impl Step {
     }
 }
 
+fn is_rise(before: &reference::Relay, enable: u8) -> bool {
+    enable & 0x40 != 0 && !before.device_on
+}
+
+/// What a list has met of the device switch.
+struct Watch {
+    /// Accepted frames since the latest rise, itself not among them.
+    since_rise: Option<u64>,
+    /// Since the latest accepted frame: a frame with bit 6 off was refused, one with it on was, a reset was accepted.
+    refused: [bool; 2],
+    reset: bool,
+    /// The same calls on a relay that remembers on whatever it met, and so never settles again.
+    unsettled: reference::Relay,
+}
+
+impl Watch {
+    fn of(fresh: reference::Relay) -> Watch {
+        Watch { since_rise: None, refused: [false; 2], reset: false, unsettled: fresh }
+    }
+
+    /// A call on a relay that came of a fresh one, and the relay and the output byte that it answered.
+    fn look_at(&mut self, call: Call, before: &reference::Relay, after: &host::Relay, output: u8, seen: &mut Settling) {
+        let (codes, enable) = match call {
+            Call::Frame { codes, enable } => (codes, enable),
+            Call::Reset { mask } => {
+                self.unsettled = reference::reset(self.unsettled, mask).relay;
+                self.reset |= reset_refusal(mask) == 0;
+                return;
+            }
+        };
+        let on = enable & 0x40 != 0;
+        if frame_refusal(&codes, enable) != 0 {
+            self.refused[usize::from(on)] = true;
+            return;
+        }
+        let unsettled = reference::frame(self.unsettled, codes, enable);
+        self.unsettled = reference::Relay { device_on: true, ..unsettled.relay };
+        seen.changed += u64::from(output != unsettled.output);
+
+        let rise = is_rise(before, enable);
+        seen.falls += u64::from(before.device_on && !on);
+        seen.refused[0] += u64::from(!before.device_on && !on && self.refused[1]);
+        seen.refused[1] += u64::from(before.device_on && on && self.refused[0]);
+        seen.refused[2] += u64::from(rise && self.refused[1]);
+        if rise {
+            seen.rises[usize::from(before.age < FULL_AGE)] += 1;
+            seen.again += u64::from(self.since_rise.is_some_and(|frames| frames + 1 < u64::from(FULL_AGE)));
+            seen.resets += u64::from(self.reset);
+            assert_eq!(after.age, 1);
+        }
+        assert_eq!(after.device_on, on);
+        self.since_rise = if rise { Some(0) } else { self.since_rise.map(|frames| frames + 1) };
+        (self.refused, self.reset) = ([false; 2], false);
+
+        let Some(since) = self.since_rise else { return };
+        for (old, new) in before.channels.iter().zip(&after.channels) {
+            let latched = [!old.loss_latch && new.loss_latch, !old.over_latch && new.over_latch];
+            for (k, first) in [87, 75].into_iter().enumerate() {
+                assert!(!latched[k] || since >= first, "a latch went on in frame T + {since}");
+                seen.latched[k] += u64::from(latched[k]);
+                seen.at_once[k] += u64::from(latched[k] && since == first);
+            }
+        }
+    }
+}
+
 impl Restraint {
     fn look_at(&mut self, answer: &host::FrameAnswer, counted: bool, enable: u8) {
         let Settings { pickup, restraint, .. } = answer_settings(answer);
@@ -329,7 +476,7 @@ fn within_2(answer: &host::FrameAnswer) {
     }
 }
 
-/// Latches and output bytes after each call, by the history that is read from the list alone.
+/// Latches, output bytes, age and remembered bit 6 after each call, by the history that is read from the list alone.
 fn hold_to_history(settings: Settings, calls: &[Call], answers: &[(u8, host::Relay)]) {
     let history = History::of(settings, calls);
     let mut n = 0;
@@ -338,6 +485,8 @@ fn hold_to_history(settings: Settings, calls: &[Call], answers: &[(u8, host::Rel
             let by_history = [Latch::Loss, Latch::Over].map(|latch| history.is_on(latch, c, place + 1));
             assert_eq!([channel.loss_latch, channel.over_latch], by_history, "channel {c} after call {place}");
         }
+        let by_history = (history.age(place + 1), history.device_on(place + 1));
+        assert_eq!((usize::from(relay.age), relay.device_on), by_history, "after call {place}");
         if history.frames.get(n).is_some_and(|frame| frame.place == place) {
             assert_eq!(*output, history.output(n), "frame {n}");
             n += 1;
@@ -361,6 +510,11 @@ fn handed_in(prng: &mut Prng, seen: &mut Seen) {
         Call::Frame { codes, enable: enable as u8 }
     };
     step.make(call, seen);
+    if let Call::Frame { codes, enable } = call {
+        let accepted = is_sound(&theirs) && frame_refusal(&codes, enable) == 0;
+        let runs = theirs.channels.iter().any(|channel| channel.loss_run > 0 || channel.over_run > 0);
+        seen.runs_kept += u64::from(accepted && is_rise(&theirs, enable) && theirs.age == FULL_AGE && runs);
+    }
     let highest = theirs.settings.restraint.into_iter().max().unwrap();
     let mut without = theirs;
     without.settings.restraint = [0; 3];
@@ -435,10 +589,27 @@ fn main() {
     for (of, Restraint { fed, kept, by_equality }) in [("the lists", restraint), ("all calls", seen.restraint)] {
         println!("  currents at their pickup under restraint in {of}: {fed} feed the run, {kept} do not, {by_equality} of these by equality");
     }
+    let Settling { falls, rises, again, refused, resets, latched, at_once, changed } = seen.settling;
+    println!(
+        "  device in the lists: off {falls}, on again at age 72 {} and below {}, {again} within 72 frames of a rise",
+        rises[0], rises[1]
+    );
+    println!(
+        "  frames refused with bit 6 the other way: while off {}, while on {}, before a rise {}; resets there {resets}",
+        refused[0], refused[1], refused[2]
+    );
+    println!(
+        "  latches after a rise T: loss {}, in T + 87 {}; over {}, in T + 75 {}; output bytes changed by it {changed}",
+        latched[0], at_once[0], latched[1], at_once[1]
+    );
+    println!("  relays handed in, at age 72 and with a run, that a frame settles again: {}", seen.runs_kept);
     println!("  relays handed in that a restraint level alone makes unsound: {} and, by 255, {}", seen.by_restraint[0], seen.by_restraint[1]);
     println!("  accepted estimates of orders 1, 2, 3, each within 2 of the exact one: {:?}", seen.estimates);
     assert!(restraint.fed >= 10_000 && restraint.kept >= 10_000 && seen.restraint.by_equality >= 100);
     assert!(seen.by_restraint.iter().all(|&count| count >= 1_000) && seen.estimates.iter().all(|&count| count >= 50_000));
     assert!(in_lists >= 200_000 && seen.counted >= 100_000 && seen.by_history >= 100);
     assert!(trips.iter().all(|&count| count >= 1_000) && cleared >= 1_000 && seen.returned >= 1_000);
+    assert!(falls >= 3_000 && rises.iter().all(|&count| count >= 1_000) && again >= 300 && resets >= 300);
+    assert!(refused.iter().all(|&count| count >= 100) && changed >= 10_000 && seen.runs_kept >= 10_000);
+    assert!(latched.iter().all(|&count| count >= 500) && at_once.iter().all(|&count| count >= 100));
 }

@@ -23,9 +23,12 @@ struct Seen {
     excerpts: u64,
     strongest: u64,
     reports: u64,
+    /// Reports with an output byte above 0, and of these on captures in which bit 6 goes off and on again.
+    tripped: [u64; 2],
 }
 
-/// Cells of so many frames: small changes, large ones, or both.
+/// Cells of so many frames: small changes, large ones, or both. Bit 6 is seldom off, as a relay settles again after it
+/// and a report would show no latch.
 fn cells(frames: usize, prng: &mut Prng) -> Vec<u16> {
     let spread = [2, 40, 512][prng.below(3) as usize];
     let mut codes = [512i64; 6];
@@ -38,7 +41,8 @@ fn cells(frames: usize, prng: &mut Prng) -> Vec<u16> {
             };
             cells.push(*code as u16);
         }
-        cells.push(if prng.once_in(4) { prng.below(128) as u16 } else { 0x7F });
+        let channels = if prng.once_in(4) { prng.below(64) as u16 } else { 0x3F };
+        cells.push(u16::from(!prng.once_in(150)) << 6 | channels);
     }
     cells
 }
@@ -120,6 +124,17 @@ fn report(bytes: &[u8], text: &mut [u8], seen: &mut Seen) {
     short.fill(OLD);
     assert!(host::report(bytes, short) == 0 && short.iter().all(|&byte| byte == OLD));
     seen.reports += 1;
+    let tripped = expected.split(|&byte| byte == b'\n').any(|line| line.len() > 12 && !line.ends_with(b" 00"));
+    seen.tripped[0] += u64::from(tripped);
+    seen.tripped[1] += u64::from(tripped && goes_off_and_on(bytes));
+}
+
+/// Whether a frame of a right capture has bit 6 on after one with it off.
+fn goes_off_and_on(bytes: &[u8]) -> bool {
+    let mut cells = vec![0; bytes.len() * CELLS];
+    let frames = reference::read(bytes, &mut cells).count;
+    let on: Vec<bool> = cells[..CELLS * frames].chunks(CELLS).map(|frame| frame[6] & 0x40 != 0).collect();
+    on.windows(2).any(|two| !two[0] && two[1])
 }
 
 /// A valid capture, with room that is enough, just enough, or too little, both ways.
@@ -258,8 +273,13 @@ fn main() {
         "captures: {} valid, {} cut, {} damaged by one byte, {} writings, {} excerpts, {} strongest windows, {} reports, seed {}: all agree",
         seen.valid, seen.cut, seen.damaged, seen.written, seen.excerpts, seen.strongest, seen.reports, flags.seed
     );
+    println!(
+        "  reports with an output byte above 0: {}, of these with bit 6 off and on again {}",
+        seen.tripped[0], seen.tripped[1]
+    );
     seen.refusals.show(6..=13);
     println!("  the same captures, valid, cut and damaged, into no cells at all:");
     seen.into_nothing.show(6..=11);
     assert!(seen.valid + seen.cut + seen.damaged >= 20_000 && seen.excerpts >= 10_000 && seen.reports >= 1_000);
+    assert!(seen.tripped.iter().all(|&count| count >= 50));
 }

@@ -11,13 +11,15 @@ fn layout() {
     assert_eq!((size_of::<Channel>(), align_of::<Channel>()), (20, 2));
     assert_eq!((offset_of!(Channel, loss_run), offset_of!(Channel, over_run)), (16, 17));
     assert_eq!((offset_of!(Channel, loss_latch), offset_of!(Channel, over_latch)), (18, 19));
-    // The last byte of the settings, and so of a relay, is padding.
+    // The last byte of the settings, and so of a relay, is padding; so is the one before a relay's settings.
     assert_eq!((size_of::<Settings>(), offset_of!(Settings, pickup), offset_of!(Settings, restraint)), (22, 12, 18));
-    assert_eq!((size_of::<Relay>(), offset_of!(Relay, age), offset_of!(Relay, slot), offset_of!(Relay, settings)), (144, 120, 121, 122));
-    assert_eq!((size_of::<FreshAnswer>(), offset_of!(FreshAnswer, refusal)), (146, 144));
-    assert_eq!((size_of::<ResetAnswer>(), offset_of!(ResetAnswer, refusal)), (146, 144));
-    assert_eq!((size_of::<FrameAnswer>(), offset_of!(FrameAnswer, refusal)), (160, 144));
-    assert_eq!((offset_of!(FrameAnswer, amplitudes), offset_of!(FrameAnswer, output)), (146, 158));
+    assert_eq!((size_of::<Relay>(), align_of::<Relay>()), (146, 2));
+    assert_eq!((offset_of!(Relay, age), offset_of!(Relay, slot)), (120, 121));
+    assert_eq!((offset_of!(Relay, device_on), offset_of!(Relay, settings)), (122, 124));
+    assert_eq!((size_of::<FreshAnswer>(), offset_of!(FreshAnswer, refusal)), (148, 146));
+    assert_eq!((size_of::<ResetAnswer>(), offset_of!(ResetAnswer, refusal)), (148, 146));
+    assert_eq!((size_of::<FrameAnswer>(), offset_of!(FrameAnswer, refusal)), (162, 146));
+    assert_eq!((offset_of!(FrameAnswer, amplitudes), offset_of!(FrameAnswer, output)), (148, 160));
     assert_eq!((size_of::<EstimateAnswer>(), align_of::<EstimateAnswer>(), offset_of!(EstimateAnswer, amplitude)), (4, 2, 2));
     assert_eq!((size_of::<host::Answer>(), offset_of!(host::Answer, count)), (16, 8));
     assert_eq!((size_of::<StrongestWindow>(), offset_of!(StrongestWindow, sum), offset_of!(StrongestWindow, frame)), (16, 4, 8));
@@ -43,6 +45,28 @@ fn a_fault_is_seen_and_reset() {
     let answer = relay.reset(0x10);
     assert_eq!((answer.refusal, answer.relay.channels[4].over_latch), (refusal::ACCEPTED, false));
     assert_eq!(answer.relay.reset(0xC0).refusal, refusal::BAD_MASK);
+}
+
+/// The device is switched off and on under a fault on channel 4: the relay settles again, and trips 75 frames after the
+/// frame that has bit 6 on again.
+#[test]
+fn the_device_switch_settles_the_relay_again() {
+    let fault = [900, 786, 512, 238, 124, 238, 512, 786];
+    for (off, trip) in [(0..0, 75), (0..1, 76), (50..60, 135), (72..75, 150), (60..100, 175)] {
+        let mut relay = Relay::fresh(Settings { drop: [1; 6], ..SETTINGS }).relay;
+        assert!(relay.device_on);
+        let mut outputs = Vec::new();
+        for n in 0..200 {
+            let device_on = !off.contains(&n);
+            let answer = relay.frame([512, 512, 512, 512, fault[n % 8], 512], if device_on { 0x7F } else { 0x3F });
+            assert_eq!((answer.refusal, answer.relay.device_on), (refusal::ACCEPTED, device_on));
+            relay = answer.relay;
+            outputs.push(answer.output & 0x10);
+        }
+        assert_eq!(outputs.iter().position(|&output| output != 0), Some(trip), "off in {off:?}");
+    }
+    let refused = Relay::fresh(Settings { drop: [0; 6], ..SETTINGS });
+    assert!(refused.refusal == refusal::BAD_SETTING && !refused.relay.device_on);
 }
 
 /// Magnetising current on channel 3, with a second harmonic of a quarter of the fundamental: it trips a relay without restraint, and no relay

@@ -43,6 +43,7 @@ static void take_relay(struct relay *relay)
         relay->restraint[c] = (uint8_t)take();
     relay->age = (uint8_t)take();
     relay->slot = (uint8_t)take();
+    relay->device_on = take() != 0;
     for (int c = 0; c < CHANNELS; c++) {
         struct channel *channel = &relay->channels[c];
         for (int k = 0; k < SLOTS; k++)
@@ -62,11 +63,13 @@ static void same_number(long number)
 
 static void same_relay(const struct relay *relay)
 {
-    /* The structs have no padding between their fields; slot is the last. */
-    _Static_assert(sizeof(struct channel) == 20 && offsetof(struct relay, slot) == 142, "no padding");
+    /* The structs have no padding: the sizes are the sums of the fields' sizes.
+       device_on is the last of 144 bytes. */
+    _Static_assert(sizeof(bool) == 1 && sizeof(struct channel) == SLOTS * 2 + 4, "no padding");
+    _Static_assert(sizeof(struct relay) == CHANNELS * 20 + CHANNELS * 2 + CURRENTS * 2 + CURRENTS + 3, "no padding");
     struct relay expected;
     take_relay(&expected);
-    if (memcmp(relay, &expected, offsetof(struct relay, slot) + 1) != 0)
+    if (memcmp(relay, &expected, sizeof expected) != 0)
         differs("relay");
 }
 

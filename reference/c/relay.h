@@ -1,6 +1,6 @@
-/* Six-channel phasor relay, after document 01 and Paper 8 of document 02.
-   Every function answers the document's refusal number, 0 if the call is
-   accepted. */
+/* Six-channel phasor relay, after document 01 and Papers 5 and 8 of
+   document 02. Every function answers the document's refusal number, 0 if the
+   call is accepted. */
 #ifndef RELAY_H
 #define RELAY_H
 
@@ -57,6 +57,7 @@ struct relay {
     uint8_t restraint[CURRENTS];
     uint8_t age;
     uint8_t slot;
+    bool device_on; /* bit 6 of the latest accepted frame; fresh, it is on */
 };
 
 struct framed {

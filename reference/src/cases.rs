@@ -100,6 +100,7 @@ pub fn all() -> Vec<Case> {
     let mut table = Table(Vec::new());
     lengths(&mut table);
     latches(&mut table);
+    settling(&mut table);
     inrushes(&mut table);
     levels(&mut table);
     noise(&mut table);
@@ -204,7 +205,8 @@ fn latches(table: &mut Table) {
             table.add(format!("enabled-{name}-{c}"), frames.capture());
         }
     }
-    // A disabled frame, or the device off for one, within each run: it starts again.
+    // A disabled frame, or the device off for one, within each run: it starts again,
+    // in the latter only after the capture's end, since the device settles.
     for gap in [71, 72, 73, 74, 75, 76, 80, 86, 87, 88] {
         let frames = Frames::new(110, tripping);
         let channels_off = frames.clone().enable(|n| if n == gap { 0x40 } else { ALL_ON });
@@ -228,6 +230,105 @@ fn latches(table: &mut Table) {
     table.add("enable-zero", nothing_on.capture());
     let one_by_one = Frames::new(200, tripping).enable(|n| 0x40 | 1 << (n / 17 % 6));
     table.add("one-channel-at-a-time", one_by_one.capture());
+}
+
+/// Bit 6 off in the frames of `off`, all else on.
+fn device_off_in(off: &[std::ops::Range<usize>]) -> impl Fn(usize) -> u16 + '_ {
+    move |n| if off.iter().any(|frames| frames.contains(&n)) { DEVICE_OFF } else { ALL_ON }
+}
+
+/// For Paper 5: after a rise of bit 6 at frame T the frames T to T + 71 are not
+/// counted, so an over latch needs T + 75 and a loss latch T + 87.
+fn settling(table: &mut Table) {
+    // Channel 3 trips; the device goes off; when it is back, channel 4 is over and
+    // channel 0 dead, and channel 3 has only its latch.
+    let delayed = |n, c| match c {
+        0 if n >= 90 => 512,
+        3 if n < 90 => wave(n, STRONG, 0),
+        4 if n >= 90 => wave(n, 0, STRONG),
+        _ => quiet(n, c),
+    };
+    table.add("settling", Frames::new(200, delayed).enable(device_off_in(&[90..100])).capture());
+
+    // Channel 0 is dead and channel 4 over from frame `from` on. Named by the rises.
+    let both = |from: usize| {
+        move |n, c| match c {
+            0 if n >= from => 512,
+            4 if n >= from => wave(n, STRONG, 0),
+            _ => quiet(n, c),
+        }
+    };
+    for (name, from, count, off) in [
+        // Bit 6 in frame 0: on there is no rise, off and then on is one.
+        ("none", 0, 100, &[][..]),
+        ("at-1", 0, 100, &[0..1]),
+        // At ages of 40, 71 and 72.
+        ("at-40", 0, 140, &[30..40]),
+        ("at-71", 0, 170, &[60..71]),
+        ("at-72", 0, 170, &[60..72]),
+        // The device is off for one frame.
+        ("at-101", 100, 200, &[100..101]),
+        // Two rises. Up to the second no frame is counted, or four or five of which
+        // the last has the device off; after four with it on channel 4 trips.
+        ("at-100-and-150", 90, 250, &[90..100, 149..150]),
+        ("at-100-and-172", 90, 270, &[90..100, 171..172]),
+        ("at-100-and-176", 90, 270, &[90..100, 175..176]),
+        ("at-100-and-177", 90, 270, &[90..100, 176..177]),
+        ("at-10-and-20-and-90", 0, 190, &[5..10, 19..20, 80..90]),
+    ] {
+        table.add(format!("rise-{name}"), Frames::new(count, both(from)).enable(device_off_in(off)).capture());
+    }
+
+    // Runs of 15 and of 3 stand when the device goes off: channel 0 is dead and
+    // enabled throughout, channel 4 over throughout and enabled from frame 84 on.
+    let runs = |n: usize, off: bool| match n {
+        0..=83 => ALL_ON ^ 0x10,
+        87 if off => DEVICE_OFF,
+        _ => ALL_ON,
+    };
+    for (name, off) in [("cut", true), ("uncut", false)] {
+        let frames = Frames::new(200, both(0)).enable(|n| runs(n, off));
+        table.add(format!("runs-of-15-and-3-{name}"), frames.capture());
+    }
+
+    // A kick that brings channel 4 over pickup, for 4 frames or for 5: it lies in
+    // one slot, and another kick ends it. Frame 168 is 71 after the rise.
+    for last in [171, 172] {
+        let kicked = |n, c| {
+            let kick = if c == 4 && (n == 168 || n == last + 1) { 385 } else { 0 };
+            if c == 4 {
+                wave(n, MIDDLE, 0) + kick
+            } else {
+                quiet(n, c)
+            }
+        };
+        let frames = Frames::new(200, kicked).enable(device_off_in(&[94..97]));
+        table.add(format!("rise-at-97-over-168-to-{last}"), frames.capture());
+    }
+
+    // Waves at random with the device off now and then, and on for long enough.
+    for seed in 0..2 {
+        let mut prng = Prng(400 + seed);
+        let mut peaks = [100; 6];
+        let frames = Frames::new(500, |n, c| {
+            if prng.once_in(60) {
+                peaks[c] = prng.within(0, 330);
+            }
+            wave(n, peaks[c], 10)
+        });
+        let mut prng = Prng(500 + seed);
+        let (mut on, mut left) = (seed == 0, prng.within(2, 120));
+        let mixed = frames.enable(|_| {
+            if left == 0 {
+                on = !on;
+                left = if on { prng.within(30, 160) } else { prng.within(1, 5) };
+            }
+            left -= 1;
+            let channels = if prng.once_in(40) { prng.below(64) as u16 } else { 0x3F };
+            u16::from(on) << 6 | channels
+        });
+        table.add(format!("rises-{seed}"), mixed.capture());
+    }
 }
 
 /// The first frame of an inrush.

@@ -4,7 +4,7 @@
 use crate::amplitude::{amplitude, amplitude_of_order, sample, Window};
 use crate::exact::Exact;
 use crate::relay::{
-    frame_refusal, is_enabled, is_unrestrained, reset_refusal, Settings, FIRST_CURRENT, FULL_AGE,
+    frame_refusal, is_device_on, is_enabled, is_unrestrained, reset_refusal, Settings, FIRST_CURRENT,
     FULL_LOSS_RUN, FULL_OVER_RUN,
 };
 
@@ -35,6 +35,9 @@ pub struct AcceptedFrame {
     /// Its place in the list of calls.
     pub place: usize,
     pub enable: u8,
+    /// Whether it has bit 6 on right after a frame with it off.
+    pub is_rise: bool,
+    pub is_counted: bool,
     pub m: [i64; 6],
     pub z: [Exact; 6],
     /// The second harmonic, of the same windows.
@@ -61,18 +64,22 @@ impl History {
     /// nothing", so it leaves no trace here.
     pub fn of(settings: Settings, calls: &[Call]) -> History {
         let mut codes_of_frame: Vec<[u16; 6]> = Vec::new();
+        let mut enable_of_frame: Vec<u8> = Vec::new();
         let mut frames = Vec::new();
         let mut resets = Vec::new();
         for (place, call) in calls.iter().enumerate() {
             match *call {
                 Call::Frame { codes, enable } if frame_refusal(&codes, enable) == 0 => {
                     codes_of_frame.push(codes);
+                    enable_of_frame.push(enable);
                     let n = frames.len();
                     let windows: [Window; 6] =
                         std::array::from_fn(|c| window_at(&codes_of_frame, n, c));
                     frames.push(AcceptedFrame {
                         place,
                         enable,
+                        is_rise: is_rise(&enable_of_frame, n),
+                        is_counted: is_counted(&enable_of_frame, n),
                         m: windows.map(|w| amplitude(&w)),
                         z: windows.map(|w| Exact::of(&w)),
                         second_m: windows.map(|w| amplitude_of_order(&w, 2)),
@@ -90,16 +97,16 @@ impl History {
 
     /// Whether the frames `first` and following make a full run: "16 (loss) or
     /// 4 (over) successive counted frames with the channel enabled, none
-    /// separated by an accepted reset naming it". "Frame n is counted if n is
-    /// 72 or more."
+    /// separated by an accepted reset naming it". Successive frames are next in
+    /// number.
     pub fn is_full_run(&self, latch: Latch, channel: usize, first: usize) -> bool {
         let end = first + latch.full_run();
-        if first < usize::from(FULL_AGE) || end > self.frames.len() {
+        if end > self.frames.len() {
             return false;
         }
         let run = &self.frames[first..end];
         let span = run[0].place..run[run.len() - 1].place;
-        run.iter().all(|frame| is_enabled(frame.enable, channel))
+        run.iter().all(|frame| frame.is_counted && is_enabled(frame.enable, channel))
             && !self.resets_naming(channel).any(|place| span.contains(&place))
     }
 
@@ -158,6 +165,21 @@ impl History {
             .sum()
     }
 
+    /// What the relay remembers of bit 6 after the first `calls` calls: that of
+    /// the latest accepted frame, "a fresh relay remembers on".
+    pub fn device_on(&self, calls: usize) -> bool {
+        let latest = self.frames.iter().filter(|frame| frame.place < calls).last();
+        latest.map_or(true, |frame| is_device_on(frame.enable))
+    }
+
+    /// The age after the first `calls` calls: the number of accepted frames
+    /// from the latest rise on, or from the start if there is none, up to 72.
+    pub fn age(&self, calls: usize) -> usize {
+        let accepted = self.frames.iter().filter(|frame| frame.place < calls).count();
+        let latest_rise = self.frames[..accepted].iter().rposition(|frame| frame.is_rise);
+        (accepted - latest_rise.unwrap_or(0)).min(72)
+    }
+
     /// The drop or pickup level. A voltage has no pickup level.
     pub fn level(&self, latch: Latch, channel: usize) -> i64 {
         i64::from(match latch {
@@ -169,6 +191,18 @@ impl History {
     fn resets_naming(&self, channel: usize) -> impl Iterator<Item = usize> + '_ {
         self.resets.iter().filter(move |r| r.mask >> channel & 1 == 1).map(|r| r.place)
     }
+}
+
+/// "Frame n [...] has bit 6 on right after one with it off." Frame 0 has none
+/// before it.
+fn is_rise(enable_of_frame: &[u8], n: usize) -> bool {
+    n > 0 && is_device_on(enable_of_frame[n]) && !is_device_on(enable_of_frame[n - 1])
+}
+
+/// "Frame n is counted if n is 72 or more and none of the frames n − 71 to n
+/// has bit 6 on right after one with it off."
+fn is_counted(enable_of_frame: &[u8], n: usize) -> bool {
+    n >= 72 && !(n - 71..=n).any(|number| is_rise(enable_of_frame, number))
 }
 
 /// "At accepted frame n a channel's window has in slot k the sample of the

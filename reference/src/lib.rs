@@ -1,10 +1,10 @@
 //! Six-channel phasor relay: a second implementation of document 01 and of
-//! Paper 8 of document 02.
+//! Papers 5 and 8 of document 02.
 //!
 //! It is written for reading and not for speed. Quotations are from document
-//! 01, those on harmonics and restraint from Paper 8. NOTES.md says how far it
-//! is independent of the proved one, and lists the decisions taken where the
-//! words could be read in two ways.
+//! 01, those on harmonics and restraint from Paper 8, those on the remembered
+//! bit 6 from Paper 5. NOTES.md says how far it is independent of the proved
+//! one, and lists the decisions taken where the words could be read in two ways.
 
 pub mod amplitude;
 pub mod bench;

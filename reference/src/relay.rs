@@ -40,6 +40,9 @@ pub struct Relay {
     pub channels: [Channel; 6],
     pub age: u8,
     pub slot: u8,
+    /// "Whether bit 6 was on in the latest accepted frame; a fresh relay
+    /// remembers on." The all-zero relay remembers off.
+    pub device_on: bool,
 }
 
 #[derive(Clone, Copy, Debug, PartialEq, Eq)]
@@ -86,7 +89,8 @@ pub fn is_unrestrained(r: u8, m1: i64, m2: i64) -> bool {
 }
 
 /// "A relay handed in is sound if ...". A run at its end with its latch off is
-/// sound: the document lists nothing between runs and latches.
+/// sound: the document lists nothing between runs and latches. Either
+/// remembered bit is sound.
 pub fn is_sound(relay: &Relay) -> bool {
     let channel_sound = |c: usize| {
         let channel = &relay.channels[c];
@@ -104,18 +108,23 @@ pub fn is_sound(relay: &Relay) -> bool {
         && (0..6).all(channel_sound)
 }
 
+/// "Bit 6 enables the device."
+pub fn is_device_on(enable: u8) -> bool {
+    enable >> 6 & 1 == 1
+}
+
 /// "A channel is enabled in a frame if its bit and bit 6 are both 1."
 pub fn is_enabled(enable: u8, channel: usize) -> bool {
-    enable >> channel & 1 == 1 && enable >> 6 & 1 == 1
+    enable >> channel & 1 == 1 && is_device_on(enable)
 }
 
 pub fn fresh(settings: Settings) -> Fresh {
     let number = settings_refusal(&settings);
     if number != refusal::ACCEPTED {
-        // "All-zero relay": the settings too.
+        // "All-zero relay": the settings and the remembered bit too.
         return Fresh { number, relay: Relay::default() };
     }
-    Fresh { number, relay: Relay { settings, ..Relay::default() } }
+    Fresh { number, relay: Relay { settings, device_on: true, ..Relay::default() } }
 }
 
 /// The refusal number that codes and enable byte alone decide.
@@ -146,6 +155,13 @@ pub fn frame(relay: Relay, codes: [u16; 6], enable: u8) -> Framed {
     }
     let mut next = relay;
 
+    // "A frame with bit 6 on after one with it off sets age to 0 before
+    // anything else." Step 2 of this frame then makes it 1.
+    if is_device_on(enable) && !relay.device_on {
+        next.age = 0;
+    }
+    next.device_on = is_device_on(enable);
+
     // 1. Stores the samples and finds the six amplitudes.
     let mut amplitudes = [0; 6];
     for c in 0..6 {
@@ -154,9 +170,9 @@ pub fn frame(relay: Relay, codes: [u16; 6], enable: u8) -> Framed {
         amplitudes[c] = amplitude(samples) as u16;
     }
 
-    if relay.age < FULL_AGE {
+    if next.age < FULL_AGE {
         // 2. "Adds 1 to age and counts no run; all runs stay as they were."
-        next.age = relay.age + 1;
+        next.age += 1;
     } else {
         // 3. Counts the runs.
         for c in 0..6 {
@@ -200,7 +216,7 @@ fn count_runs(channel: &mut Channel, settings: &Settings, c: usize, m: u16, enab
 }
 
 /// "A reset [checks] 2, 5." It "clears runs and latches of the named channels
-/// and nothing else": neither age nor slot nor samples.
+/// and nothing else": neither age nor slot nor samples nor the remembered bit.
 pub fn reset(relay: Relay, mask: u8) -> Reset {
     let number = if is_sound(&relay) { reset_refusal(mask) } else { refusal::NOT_SOUND };
     if number != refusal::ACCEPTED {

@@ -1,8 +1,10 @@
 //! Random calls with their answers, as numbers, for a test of the C twin. A
 //! line is: kind, what is handed in, what is handed back. c/check.c reads it.
+//! Random lists of calls on a fresh relay too, for tests of the history.
 
 use crate::amplitude::{amplitude, amplitude_of_order, estimate, Window, COSINE};
 use crate::capture::{read, strongest, write};
+use crate::history::Call;
 use crate::prng::Prng;
 use crate::relay::{frame, fresh, reset, Channel, Relay, Settings, FIRST_CURRENT};
 
@@ -31,7 +33,7 @@ impl Line {
 
     fn relay(&mut self, relay: &Relay) {
         self.settings(&relay.settings);
-        self.put_all(&[relay.age, relay.slot]);
+        self.put_all(&[relay.age, relay.slot, u8::from(relay.device_on)]);
         for channel in &relay.channels {
             self.put_all(&channel.samples);
             self.put_all(&[channel.loss_run, channel.over_run]);
@@ -97,13 +99,14 @@ fn window(prng: &mut Prng, spread: i64) -> Window {
     })
 }
 
-/// A relay at random, sound more often than not.
+/// A relay at random, sound more often than not, with either remembered bit.
 pub fn relay(prng: &mut Prng) -> Relay {
     let spread = prng.within(1, 512);
     let mut relay = Relay {
         settings: settings(prng),
         age: if prng.once_in(4) { prng.within(0, 72) as u8 } else { 72 },
         slot: prng.below(8) as u8,
+        device_on: !prng.once_in(3),
         ..Relay::default()
     };
     for c in 0..6 {
@@ -178,7 +181,7 @@ fn fresh_line(prng: &mut Prng) -> Line {
 }
 
 /// What a frame is given: a relay, codes and the enable byte. Half of the codes
-/// leave the window as it is.
+/// leave the window as it is. Bit 6 is mostly on, whatever the relay remembers.
 pub fn frame_arguments(prng: &mut Prng) -> (Relay, [u16; 6], u8) {
     let mut relay = relay(prng);
     let slot = usize::from(relay.slot % 8);
@@ -204,7 +207,11 @@ pub fn frame_arguments(prng: &mut Prng) -> (Relay, [u16; 6], u8) {
     if prng.once_in(10) {
         codes[prng.below(6) as usize] = [1024, 65_535][prng.below(2) as usize];
     }
-    let enable = if prng.once_in(8) { prng.below(256) } else { 0x40 | prng.below(128) } as u8;
+    let enable = match prng.below(8) {
+        0 => prng.below(256),
+        1 => prng.below(64),
+        _ => 0x40 | prng.below(64),
+    } as u8;
     (relay, codes, enable)
 }
 
@@ -308,4 +315,122 @@ fn estimate_line(prng: &mut Prng) -> Line {
     line.put(answer.refusal);
     line.put(answer.amplitude);
     line
+}
+
+/// The device switch of a list: bit 6 as it is and for how many more accepted
+/// frames it stays so, if it ever changes.
+struct Switch {
+    on: bool,
+    left: Option<i64>,
+}
+
+impl Switch {
+    fn new(prng: &mut Prng) -> Switch {
+        let mut switch = Switch { on: true, left: None };
+        if !prng.once_in(4) {
+            // Now and then the device is off in frame 0.
+            switch.on = prng.once_in(6);
+            switch.turn(prng);
+        }
+        switch
+    }
+
+    /// Mostly off for a few frames, and on for long enough that frames are
+    /// counted again.
+    fn turn(&mut self, prng: &mut Prng) {
+        self.on = !self.on;
+        self.left = Some(match (self.on, prng.below(8)) {
+            (true, 0 | 1) => prng.within(1, 71),
+            (true, 2) => prng.within(71, 77),
+            (true, _) => prng.within(80, 220),
+            (false, 0) => prng.within(50, 90),
+            (false, 1 | 2 | 3) => 1,
+            (false, _) => prng.within(1, 6),
+        });
+    }
+
+    fn is_at_turn(&self) -> bool {
+        self.left == Some(0)
+    }
+
+    /// Bit 6 of the next accepted frame.
+    fn next(&mut self, prng: &mut Prng) -> u8 {
+        if self.is_at_turn() {
+            self.turn(prng);
+        }
+        self.left = self.left.map(|left| left - 1);
+        u8::from(self.on) << 6
+    }
+}
+
+/// A list of calls on a fresh relay at random, and settings that make one. The
+/// amplitudes are often near the settings. In most lists the device goes off and
+/// comes back, and refused frames, mostly with bit 6 the other way, and resets
+/// come between, more often where it changes.
+pub fn list(prng: &mut Prng) -> (Settings, Vec<Call>) {
+    let level = |prng: &mut Prng| match prng.below(8) {
+        0 => prng.within(1, 4),
+        1 => prng.within(10_600, 10_700),
+        _ => prng.within(500, 6_000),
+    } as u16;
+    let settings = Settings {
+        drop: std::array::from_fn(|_| level(prng)),
+        pickup: std::array::from_fn(|_| level(prng)),
+        restraint: std::array::from_fn(|_| match prng.below(5) {
+            0 => 0,
+            1 => prng.within(1, 5) as u8,
+            2 => 100,
+            _ => prng.within(6, 60) as u8,
+        }),
+    };
+    let enable_faults = prng.within(4, 60) as u64;
+    let reset_share = prng.within(5, 80) as u64;
+    let length = prng.below(700) as usize;
+    let mut switch = Switch::new(prng);
+    let mut peaks = [200i64; 6];
+    // The second harmonic, as a part of the peak in hundredths.
+    let mut second = [0i64; 6];
+    let mut phase = [0; 6];
+    let mut frames = 0;
+    let mut calls = Vec::new();
+    while calls.len() < length {
+        if prng.once_in(if switch.is_at_turn() { 3 } else { reset_share }) {
+            let mask = if prng.once_in(4) { prng.below(256) } else { 1 << prng.below(6) };
+            calls.push(Call::Reset { mask: mask as u8 });
+        }
+        for c in 0..6 {
+            if prng.once_in(25) {
+                peaks[c] = prng.within(0, 450);
+                phase[c] = prng.below(8) as usize;
+                second[c] = if prng.once_in(3) { 0 } else { prng.within(0, 60) };
+            }
+        }
+        let codes: [u16; 6] = std::array::from_fn(|c| {
+            let slot = frames + phase[c];
+            let sum = peaks[c] * COSINE[slot % 8] + peaks[c] * second[c] * COSINE[2 * slot % 8] / 100;
+            let code = 512 + (sum >> 14) + prng.within(-3, 3);
+            code.clamp(0, 1023) as u16
+        });
+        if prng.once_in(if !switch.on || switch.is_at_turn() { 3 } else { 30 }) {
+            calls.push(refused_frame(prng, codes, switch.on));
+        }
+        let channels = if prng.once_in(enable_faults) { prng.below(64) as u8 } else { 0x3F };
+        calls.push(Call::Frame { codes, enable: switch.next(prng) | channels });
+        frames += 1;
+    }
+    (settings, calls)
+}
+
+/// A frame refused by 3 or 4, with bit 6 mostly other than `on`.
+fn refused_frame(prng: &mut Prng, mut codes: [u16; 6], on: bool) -> Call {
+    let device = on == prng.once_in(4);
+    let mut enable = u8::from(device) << 6 | prng.below(64) as u8;
+    let causes = prng.within(1, 3);
+    if causes & 1 != 0 {
+        codes[prng.below(6) as usize] = prng.within(1024, 65_535) as u16;
+    }
+    if causes & 2 != 0 {
+        enable |= 0x80;
+    }
+    Call::Frame { codes, enable }
 }

@@ -67,7 +67,75 @@ fn latch_cases_do_what_their_names_say() {
     let switched = out("device-on-off-on".into());
     assert!(switched[99] != 0 && switched[100..130].iter().all(|&byte| byte == 0) && switched[130] != 0);
     assert_eq!(first("device-off-throughout".into()), None);
-    assert_eq!(first("device-off-then-on".into()), Some(103));
+    // The rise is at frame 100, and the capture ends before frame 175.
+    assert_eq!(first("device-off-then-on".into()), None);
+    assert_eq!(first("device-off-while-young".into()), Some(147));
+    assert_eq!(first("device-alternating".into()), None);
+}
+
+/// Every frame in which the output byte is other than before, from 00 on.
+#[test]
+fn settling_cases_trip_when_they_should() {
+    let texts: HashMap<String, String> =
+        cases::all().into_iter().map(|case| (case.name, text_of(&case.capture))).collect();
+    let both = |over: usize, loss: usize| vec![(over, 0x10), (loss, 0x11)];
+    for (name, expected) in [
+        ("settling", vec![(75, 0x08), (90, 0x00), (100, 0x08), (175, 0x18), (187, 0x19)]),
+        ("rise-none", both(75, 87)),
+        ("rise-at-1", both(1 + 75, 1 + 87)),
+        ("rise-at-40", both(40 + 75, 40 + 87)),
+        ("rise-at-71", both(71 + 75, 71 + 87)),
+        ("rise-at-72", both(72 + 75, 72 + 87)),
+        ("rise-at-101", both(101 + 75, 101 + 87)),
+        ("rise-at-100-and-150", both(150 + 75, 150 + 87)),
+        ("rise-at-100-and-172", both(172 + 75, 172 + 87)),
+        ("rise-at-100-and-176", both(176 + 75, 176 + 87)),
+        ("rise-at-100-and-177", vec![(175, 0x10), (176, 0x00), (177, 0x10), (177 + 87, 0x11)]),
+        ("rise-at-10-and-20-and-90", both(90 + 75, 90 + 87)),
+        ("runs-of-15-and-3-cut", both(88 + 75, 88 + 87)),
+        ("runs-of-15-and-3-uncut", vec![(87, 0x11)]),
+        ("rise-at-97-over-168-to-171", vec![]),
+        ("rise-at-97-over-168-to-172", vec![(97 + 75, 0x10)]),
+    ] {
+        let out = outputs(&texts[name]);
+        let before = |n: usize| if n == 0 { 0 } else { out[n - 1] };
+        let changes: Vec<(usize, u8)> =
+            (0..out.len()).filter(|&n| out[n] != before(n)).map(|n| (n, out[n])).collect();
+        assert_eq!(changes, expected, "{name}");
+    }
+    // Channel 4 is over pickup in exactly the frames named.
+    for last in [171, 172] {
+        let text = &texts[&format!("rise-at-97-over-168-to-{last}")];
+        for (n, line) in text.lines().take(200).enumerate() {
+            let m: u16 = line.split(' ').nth(5).unwrap().parse().unwrap();
+            assert_eq!(m >= 3413, (168..=last).contains(&n), "{n}");
+        }
+    }
+}
+
+/// The frames of the random cases in which bit 6 comes back; and every case that
+/// has such a frame, by name. No case without one changed with Paper 5.
+#[test]
+fn which_cases_have_a_rise() {
+    let rises_of = |capture: &[u8]| -> Vec<usize> {
+        let mut cells = vec![0; 7 * 4096];
+        let outcome = read(capture, &mut cells);
+        let on = |n: usize| cells[7 * n + 6] & 0x40 != 0;
+        (1..outcome.count).filter(|&n| on(n) && !on(n - 1)).collect()
+    };
+    for seed in 0..2 {
+        let rises = rises_of(&capture_of(&format!("rises-{seed}")));
+        let near = rises.windows(2).filter(|pair| pair[1] - pair[0] < 72).count();
+        let far = rises.windows(2).filter(|pair| pair[1] - pair[0] > 90).count();
+        println!("rises-{seed}: {rises:?}");
+        assert!(near >= 1 && far >= 1);
+    }
+    let with_rises: Vec<String> =
+        cases::all().into_iter().filter(|case| !rises_of(&case.capture).is_empty()).map(|case| case.name).collect();
+    println!("with a rise: {with_rises:?}");
+    let beginnings = ["rise", "settling", "runs-of-15-and-3-cut", "gap-device-", "device-", "noise-", "frames-4096"];
+    assert!(with_rises.iter().all(|name| beginnings.iter().any(|beginning| name.starts_with(beginning))));
+    assert!(!with_rises.iter().any(|name| name.starts_with("device-off-throughout") || name == "rise-none"));
 }
 
 #[test]

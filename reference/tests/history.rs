@@ -1,8 +1,9 @@
 //! Demand 3: random lists of calls, where the stepwise relay has to agree with
-//! the latch history read from the list.
+//! the latch history read from the list, and with the age and the remembered bit
+//! that the list gives it.
 
 use reference::prng::Prng;
-use reference::relay::{frame_refusal, reset_refusal};
+use reference::relay::{frame_refusal, is_device_on, reset_refusal};
 use reference::*;
 
 /// What the lists met, so that a test that saw nothing fails.
@@ -18,6 +19,32 @@ struct Seen {
     /// Full over runs that meet their level, and clearly so, but are restrained.
     restrained: usize,
     clearly_met_but_restrained: usize,
+    switch: SeenOfSwitch,
+}
+
+/// What the lists met of the device switch. A rise is a frame with bit 6 on
+/// right after one with it off.
+#[derive(Debug, Default)]
+struct SeenOfSwitch {
+    falls: usize,
+    rises: usize,
+    /// Rises at an age below 72, and those with another within 72 frames.
+    young_rises: usize,
+    second_rises: usize,
+    counted_after_a_rise: usize,
+    latched_after_a_rise: [usize; 2],
+    /// Frames that show a latch while the device settles after a rise.
+    shown_while_settling: usize,
+    off_in_frame_0: usize,
+    off_for_one_frame: usize,
+    /// Accepted frames with refused ones between: by 3 and by 4 with bit 6 off
+    /// between a frame with it on and a counted one with it on; with bit 6 on
+    /// between two with it off; with bit 6 on between a frame and a rise.
+    refused_off_among_on: [usize; 2],
+    refused_on_among_off: usize,
+    refused_on_before_a_rise: usize,
+    /// Accepted resets between the off and the on frame.
+    reset_before_a_rise: usize,
 }
 
 fn latches(relay: &Relay, latch: Latch) -> [bool; 6] {
@@ -50,6 +77,8 @@ fn check(settings: Settings, calls: &[Call], seen: &mut Seen) {
                         assert!(history.frames[n].second_z[c].within_2(history.frames[n].second_m[c]));
                     }
                     assert_eq!(answer.output, history.output(n));
+                    // It found age 72 and does not settle.
+                    assert_eq!(history.frames[n].is_counted, before.age == 72 && relay.age == 72);
                     check_z_clauses(&history, &before, &relay, n, seen);
                     n += 1;
                 }
@@ -70,9 +99,58 @@ fn check(settings: Settings, calls: &[Call], seen: &mut Seen) {
             let by_history = std::array::from_fn(|c| history.is_on(latch, c, place + 1));
             assert_eq!(latches(&relay, latch), by_history, "{latch:?} after call {place}");
         }
+        assert_eq!(relay.device_on, history.device_on(place + 1), "after call {place}");
+        assert_eq!(usize::from(relay.age), history.age(place + 1), "after call {place}");
     }
     assert_eq!(n, history.frames.len());
     seen.frames += n;
+    look_at_switch(&history, calls, &mut seen.switch);
+}
+
+fn look_at_switch(history: &History, calls: &[Call], seen: &mut SeenOfSwitch) {
+    let frames = &history.frames;
+    let on: Vec<bool> = frames.iter().map(|frame| is_device_on(frame.enable)).collect();
+    seen.off_in_frame_0 += usize::from(on.first() == Some(&false));
+    let mut latest_rise = None;
+    for n in 1..frames.len() {
+        let between = &calls[frames[n - 1].place + 1..frames[n].place];
+        // Whether a frame refused by this number, with bit 6 so, lies between.
+        let refused = |number: u8, device: bool| {
+            between.iter().any(|call| match *call {
+                Call::Frame { codes, enable } => {
+                    frame_refusal(&codes, enable) == number && is_device_on(enable) == device
+                }
+                Call::Reset { .. } => false,
+            })
+        };
+        let reset = between.iter().any(|call| matches!(call, Call::Reset { mask } if reset_refusal(*mask) == 0));
+        match (on[n - 1], on[n]) {
+            (true, true) if frames[n].is_counted => {
+                for (index, number) in [3, 4].into_iter().enumerate() {
+                    seen.refused_off_among_on[index] += usize::from(refused(number, false));
+                }
+            }
+            (true, true) => {}
+            (false, false) => seen.refused_on_among_off += usize::from(refused(3, true) || refused(4, true)),
+            (true, false) => {
+                seen.falls += 1;
+                seen.off_for_one_frame += usize::from(on.get(n + 1) == Some(&true));
+            }
+            (false, true) => {
+                assert!(frames[n].is_rise);
+                seen.rises += 1;
+                seen.young_rises += usize::from(history.age(frames[n].place) < 72);
+                seen.second_rises += usize::from(latest_rise.is_some_and(|rise| n - rise < 72));
+                seen.refused_on_before_a_rise += usize::from(refused(3, true) || refused(4, true));
+                seen.reset_before_a_rise += usize::from(reset);
+                latest_rise = Some(n);
+            }
+        }
+        if latest_rise.is_some() {
+            seen.counted_after_a_rise += usize::from(frames[n].is_counted);
+            seen.shown_while_settling += usize::from(!frames[n].is_counted && history.output(n) != 0);
+        }
+    }
 }
 
 /// "The clauses on Z", at accepted frame n. The clear margin has the test of
@@ -108,6 +186,9 @@ fn check_z_clauses(history: &History, before: &Relay, after: &Relay, n: usize, s
                 }));
                 assert!(history.is_unrestrained(latch, c, full_run.unwrap()));
                 seen.latched[index] += 1;
+                if history.frames[..n].iter().any(|frame| frame.is_rise) {
+                    seen.switch.latched_after_a_rise[index] += 1;
+                }
                 if latch == Latch::Over && history.settings.restraint[c - 3] > 0 {
                     seen.latched_under_restraint += 1;
                 }
@@ -116,73 +197,13 @@ fn check_z_clauses(history: &History, before: &Relay, after: &Relay, n: usize, s
     }
 }
 
-/// Calls whose amplitudes are often near the settings.
-fn random_list(prng: &mut Prng) -> (Settings, Vec<Call>) {
-    let level = |prng: &mut Prng| match prng.below(8) {
-        0 => prng.within(1, 4),
-        1 => prng.within(10_600, 10_700),
-        _ => prng.within(500, 6_000),
-    } as u16;
-    let settings = Settings {
-        drop: std::array::from_fn(|_| level(prng)),
-        pickup: std::array::from_fn(|_| level(prng)),
-        restraint: std::array::from_fn(|_| match prng.below(5) {
-            0 => 0,
-            1 => prng.within(1, 5) as u8,
-            2 => 100,
-            _ => prng.within(6, 60) as u8,
-        }),
-    };
-    let enable_faults = prng.within(4, 60) as u64;
-    let reset_share = prng.within(5, 80) as u64;
-    let mut peaks = [200i64; 6];
-    // The second harmonic, as a part of the peak in hundredths.
-    let mut second = [0i64; 6];
-    let mut phase = [0; 6];
-    let mut frames = 0;
-    let calls = (0..prng.below(420))
-        .map(|_| {
-            if prng.once_in(reset_share) {
-                let mask = if prng.once_in(4) { prng.below(256) } else { 1 << prng.below(6) };
-                return Call::Reset { mask: mask as u8 };
-            }
-            for c in 0..6 {
-                if prng.once_in(25) {
-                    peaks[c] = prng.within(0, 450);
-                    phase[c] = prng.below(8) as usize;
-                    second[c] = if prng.once_in(3) { 0 } else { prng.within(0, 60) };
-                }
-            }
-            let mut codes: [u16; 6] = std::array::from_fn(|c| {
-                let slot = frames + phase[c];
-                let sum = peaks[c] * amplitude::COSINE[slot % 8]
-                    + peaks[c] * second[c] * amplitude::COSINE[2 * slot % 8] / 100;
-                let code = 512 + (sum >> 14) + prng.within(-3, 3);
-                code.clamp(0, 1023) as u16
-            });
-            let mut enable = 0x7F;
-            if prng.once_in(enable_faults) {
-                enable = prng.below(256) as u8;
-            }
-            if prng.once_in(40) {
-                codes[prng.below(6) as usize] = prng.within(1024, 65_535) as u16;
-            }
-            if frame_refusal(&codes, enable) == 0 {
-                frames += 1;
-            }
-            Call::Frame { codes, enable }
-        })
-        .collect();
-    (settings, calls)
-}
-
 #[test]
 fn stepwise_latches_equal_the_history() {
     let mut prng = Prng(21);
     let mut seen = Seen::default();
     check(bench::SETTINGS, &[], &mut seen);
-    for _ in 0..150 {
-        let (settings, calls) = random_list(&mut prng);
+    for _ in 0..300 {
+        let (settings, calls) = trace::list(&mut prng);
         check(settings, &calls, &mut seen);
     }
     println!(
@@ -198,6 +219,35 @@ fn stepwise_latches_equal_the_history() {
     );
     assert!(seen.latched_under_restraint > 100 && seen.restrained > 500);
     assert!(seen.clearly_met_but_restrained > 500);
+    let switch = seen.switch;
+    println!("{switch:?}");
+    assert!(switch.falls > 400 && switch.rises > 400);
+    assert!(switch.young_rises > 100 && switch.second_rises > 60);
+    assert!(switch.counted_after_a_rise > 10_000 && switch.shown_while_settling > 5000);
+    assert!(switch.latched_after_a_rise.iter().all(|&count| count > 200));
+    assert!(switch.off_in_frame_0 > 20 && switch.off_for_one_frame > 100);
+    assert!(switch.refused_off_among_on.iter().all(|&count| count > 200));
+    assert!(switch.refused_on_among_off > 500 && switch.refused_on_before_a_rise > 80);
+    assert!(switch.reset_before_a_rise > 80);
+}
+
+/// Every accepted case of up to 500 frames, as calls on the bench program's relay.
+#[test]
+fn the_cases_equal_the_history() {
+    let mut seen = Seen::default();
+    for case in cases::all() {
+        let mut cells = vec![0; 7 * 4096];
+        let outcome = read(&case.capture, &mut cells);
+        if outcome.count > 500 {
+            continue;
+        }
+        let frame_of = |cells: &[u16]| Call::Frame { codes: std::array::from_fn(|c| cells[c]), enable: cells[6] as u8 };
+        let calls: Vec<Call> = cells.chunks(7).take(outcome.count).map(frame_of).collect();
+        check(bench::SETTINGS, &calls, &mut seen);
+    }
+    println!("cases: frames {}, latched {:?}, {:?}", seen.frames, seen.latched, seen.switch);
+    assert!(seen.frames > 10_000 && seen.latched.iter().all(|&count| count > 50));
+    assert!(seen.switch.rises > 50 && seen.switch.latched_after_a_rise.iter().all(|&count| count > 10));
 }
 
 /// One restrained frame in the midst makes an over run start again; below age

@@ -5,6 +5,12 @@ use reference::*;
 const GOOD: Settings = bench::SETTINGS;
 const MARK: [u8; 3] = capture::MARK;
 
+/// The fresh relay of accepted settings, and the all-zero one of refused ones.
+fn made(settings: Settings, number: u8) -> Fresh {
+    let relay = if number == 0 { Relay { settings, device_on: true, ..Relay::default() } } else { Relay::default() };
+    Fresh { number, relay }
+}
+
 fn relay() -> Relay {
     let mut relay = fresh(GOOD).relay;
     relay.age = 72;
@@ -22,9 +28,24 @@ fn refusal_1_settings() {
                 0..=5 => settings.drop[place] = level,
                 _ => settings.pickup[place - 6] = level,
             }
-            let expected = if number == 0 { Relay { settings, ..Relay::default() } } else { Relay::default() };
-            assert_eq!(fresh(settings), Fresh { number, relay: expected });
+            assert_eq!(fresh(settings), made(settings, number));
         }
+    }
+}
+
+/// "All-zero" holds for the remembered bit too; a fresh relay remembers on. The
+/// all-zero relay is not sound, so no frame with bit 6 on is a rise on it.
+#[test]
+fn the_all_zero_relay_remembers_off() {
+    assert!(fresh(GOOD).relay.device_on);
+    for settings in [Settings { drop: [0; 6], ..GOOD }, Settings { restraint: [101; 3], ..GOOD }] {
+        let relay = fresh(settings).relay;
+        assert_eq!(relay, Relay::default());
+        assert!(!relay.device_on);
+        for enable in [0x7F, 0x3F] {
+            assert_eq!(frame(relay, [512; 6], enable), Framed { number: 2, relay, amplitudes: [0; 6], output: 0 });
+        }
+        assert_eq!(reset(relay, 0x3F), Reset { number: 2, relay });
     }
 }
 
@@ -59,8 +80,9 @@ fn refusal_2_soundness() {
         spoil(&|r| r.settings.restraint[c] = 101);
         spoil(&|r| r.settings.restraint[c] = 255);
     }
-    for relay in unsound {
-        for (codes, enable) in [([512; 6], 0x7F), ([1024; 6], 0xFF)] {
+    let with_either_bit = |relay| [true, false].map(|device_on| Relay { device_on, ..relay });
+    for relay in unsound.into_iter().flat_map(with_either_bit) {
+        for (codes, enable) in [([512; 6], 0x7F), ([512; 6], 0x3F), ([1024; 6], 0xFF)] {
             let refused = Framed { number: 2, relay, amplitudes: [0; 6], output: 0 };
             assert_eq!(frame(relay, codes, enable), refused);
         }
@@ -91,27 +113,39 @@ fn sound_at_the_ends() {
 
 #[test]
 fn refusals_3_and_4_frame() {
-    let relay = relay();
+    refusals_3_and_4(relay());
+    refusals_3_and_4(Relay { device_on: false, ..relay() });
+    refusals_3_and_4(Relay { device_on: false, age: 71, ..relay() });
+}
+
+fn refusals_3_and_4(relay: Relay) {
     let refused = |number| Framed { number, relay, amplitudes: [0; 6], output: 0 };
     for c in 0..6 {
         for code in [1024, u16::MAX] {
             let mut codes = [512; 6];
             codes[c] = code;
             assert_eq!(frame(relay, codes, 0x7F), refused(3));
+            assert_eq!(frame(relay, codes, 0x3F), refused(3));
             assert_eq!(frame(relay, codes, 0x80), refused(3), "3 before 4");
+            assert_eq!(frame(relay, codes, 0xC0), refused(3), "3 before 4");
         }
     }
     for enable in 128..=255 {
         assert_eq!(frame(relay, [512; 6], enable), refused(4));
     }
     for enable in 0..128 {
-        assert_eq!(frame(relay, [512; 6], enable).number, 0);
+        let answer = frame(relay, [512; 6], enable);
+        assert_eq!((answer.number, answer.relay.device_on), (0, enable >= 64));
     }
 }
 
 #[test]
 fn refusal_5_reset() {
-    let relay = relay();
+    refusal_5(relay());
+    refusal_5(Relay { device_on: false, ..relay() });
+}
+
+fn refusal_5(relay: Relay) {
     for mask in 0..=255u8 {
         let answer = reset(relay, mask);
         if mask > 63 {
@@ -268,10 +302,9 @@ fn refusal_20_restraint() {
             let mut settings = GOOD;
             settings.restraint[place] = r;
             let number = if r > 100 { 20 } else { 0 };
-            let expected = if number == 0 { Relay { settings, ..Relay::default() } } else { Relay::default() };
-            assert_eq!(fresh(settings), Fresh { number, relay: expected });
+            assert_eq!(fresh(settings), made(settings, number));
             settings.drop[5] = 0;
-            assert_eq!(fresh(settings), Fresh { number: 1, relay: Relay::default() }, "1 before 20");
+            assert_eq!(fresh(settings), made(settings, 1), "1 before 20");
         }
     }
 }

@@ -19,7 +19,7 @@ fn show(path: &[u8]) {
     io::write_all(STDOUT_FILENO, &text[..m]);
 }
 
-// Levels, latches, refusals, and the longest capture.
+// Levels, latches, settling after the device switch, refusals, and the longest capture.
 fn main() {
     show(b"level-3412.p6k");
     show(b"level-3413.p6k");
@@ -32,6 +32,7 @@ fn main() {
     show(b"over-3.p6k");
     show(b"loss-late-0.p6k");
     show(b"disabled-and-back-4.p6k");
+    show(b"settling.p6k");
     show(b"6-mark-1-37.p6k");
     show(b"7-change-0-0-80-00.p6k");
     show(b"8-last-byte-missing.p6k");

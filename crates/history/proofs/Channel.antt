@@ -1,7 +1,7 @@
 -- One channel and its own history: after each event its window is the history's, and each of its two latches is on exactly by the rule.
--- One argument serves both kinds of run, over the kind's length and test, and so serves relays with other kinds (RestraintOnes). Rests on Runs and
--- History.
-use Prim.Native.Nat.{ℕ, zero, suc, _+_, _-_, _%_, _≤_, _<_, min}
+-- One argument serves both kinds of run, over the kind's length and test, and so serves relays with other kinds (RestraintOnes). Rests on Runs,
+-- Clock and History.
+use Prim.Native.Nat.{ℕ, zero, suc, _+_, _-_, _≤_, _<_}
 use native.Mathlib.Decide.{decLe}
 use native.Mathlib.Omega.{arith}
 use mathlib.Core.Path.{_≡_, refl, sym, ap₂, _∙_, subst}
@@ -9,19 +9,20 @@ use mathlib.Core.Logic.{_↔_}
 use mathlib.Core.Bool.{Bool, true, false, _&&_, cond}
 use mathlib.Core.List.{List, [], _∷_}
 use lib.IntN.{ℤ}
-use lib.Dec.{T, leb, ltb}
+use lib.Dec.{T}
 use lib.ListN.{set}
-use borrow.Author.Tests.{leb-true, leb-false, ltb-true, ltb-false}
 use mir.Facts.{and-yes, yes-and}
 use Rattle.lists.specs.Each.{table}
 use Rattle.frames.specs.Codes.{sampleOf}
 use Rattle.relay.specs.declared.Channel.{Channel}
-use Rattle.relay.specs.Settings.{Kind, settled}
+use Rattle.relay.specs.Settings.{Kind}
 use Rattle.relay.specs.Channel.{freshChannel, clearedOf, windowAfter, runAfter, nextRun, nextLatch}
-use Rattle.relay.specs.Relay.{ageAfter, slotAfter}
-use Rattle.history.specs.History.{Input, Event, sampled, cleared, frames, resets, resetsBefore, windowOf}
+use Rattle.history.specs.History.{Input, Event, sampled, cleared, frames, inputAt, resets, resetsBefore, windowOf}
 use Rattle.history.specs.History.{windowAt, Counted, Enabled, FullRun, FullRunMeeting, LatchOn}
 use Rattle.history.specs.Demand.{Margins}
+use Rattle.history.proofs.Clock.{Clock, freshClock, countedBy, ticked, bit6In, ClockIs, clock-fresh, clock-cleared, clock-sampled}
+use Rattle.history.proofs.Clock.{counted-is, counted-before}
+use Rattle.history.proofs.Settling.{counted-on}
 use Rattle.history.proofs.Runs.{Streak, FullAt, Full, no-streak, no-full, hit-streak, full-back, latch-frame}
 use Rattle.history.proofs.History.{_▷_, frames-sampled, inputs-cleared, input-append, input-last, resets-sampled, resets-cleared}
 use Rattle.history.proofs.History.{before-append, before-last, before-le, window-append, window-cleared, window-sampled}
@@ -98,7 +99,9 @@ module _ (kind : Kind) where
     pub live-same : (n : ℕ) → n < frames es → Live es n ↔ Live next n
     live-same n h =
         let one : List Event = sampled i ∷ [] in
-        rw (input-append es one n h, window-append es one (suc n) h, before-append es one n h, resets-sampled es i) (λ l. l, λ l. l)
+        let counted : Counted es n ↔ Counted next n = counted-before es i n h in
+        rw (input-append es one n h, window-append es one (suc n) h, before-append es one n h, resets-sampled es i)
+        (λ l. (counted .0 (l .0), l .1, l .2, l .3), λ l. (counted .1 (l .0), l .1, l .2, l .3))
 
     -- it is not live: nothing goes on
     miss : ¬ Live next (frames es) → Streak (kind .len) (suc (frames es)) 0 (Live next)
@@ -107,40 +110,41 @@ module _ (kind : Kind) where
         (λ n e b. un (subst (Live next) (let q : n ≡ frames es = omega arith in q) b))
 
     -- the run after it, by the two tests that settle it: the frame is counted, and it is enabled with a window that meets the level
-    run-after : (age run : ℕ) (counted feeds : Bool) → age ≡ min settled (frames es) → leb settled age ≡ counted
+    run-after : (run : ℕ) (counted feeds : Bool) → (T counted ↔ Counted next (frames es))
         → (i .channelBit && i .bit6 && kind .meets (windowAt next (frames es))) ≡ feeds
         → Streak (kind .len) (frames es) run (Live es)
         → Streak (kind .len) (suc (frames es)) (runAfter counted feeds (kind .len) run) (Live next)
-    run-after age run true true e q r s =
+    run-after run true true c r s =
         let both = and-yes (i .channelBit && i .bit6) (kind .meets (windowAt next (frames es))) (T-true r) in
         hit-streak (kind .len) (frames es) (Live es) (Live next) live-same run s
-        (omega (arith, leb-true settled age q), rw input-last (both .0), both .1, before-last es i ∙ sym (resets-sampled es i))
-    run-after age run true false e q r s =
+        (c .0 tt, rw input-last (both .0), both .1, before-last es i ∙ sym (resets-sampled es i))
+    run-after run true false c r s =
         miss (λ b. rw r at (yes-and (i .channelBit && i .bit6) (kind .meets (windowAt next (frames es))) (rw input-last at (b .1)) (b .2)))
-    run-after age run false feeds e q r s = rw (idle run s) (miss (λ b. early (b .0)))
+    run-after run false feeds c r s = rw (idle run s) (miss (λ b. c .1 (b .0)))
       where
-        early : ¬ Counted next (frames es)
-        early h = omega (arith, leb-false settled age q)
-
+        -- a run that is not 0 ends in a live frame, which is counted and has bit 6 on: the frame after it is no rise and is counted too
         idle : (run : ℕ) → Streak (kind .len) (frames es) run (Live es) → run ≡ 0
         idle zero s = refl
         idle (suc run) s =
             let h : suc run ≤ frames es = s .room in
-            absurd (early (omega (arith, s .hits (frames es - 1) (omega arith) (omega arith) .0)))
+            let last : ℕ = frames es - 1 in
+            let l : Live next last = live-same last (omega arith) .0 (s .hits last (omega arith) (omega arith)) in
+            absurd (c .1 (subst (Counted next) (let e : suc last ≡ frames es = omega arith in e)
+            (counted-on (bit6In next) last (l .0) (and-yes (inputAt next last .channelBit) (inputAt next last .bit6) (l .1) .1))))
 
-    pub run-sampled : 0 < kind .len → (age run : ℕ) (latch : Bool) (window : List ℤ) → age ≡ min settled (frames es)
+    pub run-sampled : 0 < kind .len → (run : ℕ) (latch counted : Bool) (window : List ℤ) → (T counted ↔ Counted next (frames es))
         → window ≡ windowAt next (frames es) → RunIs es run latch
-        → RunIs next (nextRun kind (leb settled age) (i .channelBit && i .bit6) window run)
-        (nextLatch kind (nextRun kind (leb settled age) (i .channelBit && i .bit6) window run) latch)
+        → RunIs next (nextRun kind counted (i .channelBit && i .bit6) window run)
+        (nextLatch kind (nextRun kind counted (i .channelBit && i .bit6) window run) latch)
     unfolding nextRun
-    run-sampled some age run latch window e w r =
+    run-sampled some run latch counted window c w r =
         record {
           streak = rw frames-sampled streak;
           on = rw frames-sampled (latch-frame (kind .len) (frames es) (Live es) (Live next) live-same _ latch some streak (r .on));
         }
       where
-        streak : Streak (kind .len) (suc (frames es)) (nextRun kind (leb settled age) (i .channelBit && i .bit6) window run) (Live next)
-        streak = rw w (run-after age run _ _ e refl refl (r .streak))
+        streak : Streak (kind .len) (suc (frames es)) (nextRun kind counted (i .channelBit && i .bit6) window run) (Live next)
+        streak = rw w (run-after run counted _ c refl (r .streak))
 
     -- where the latch went on in the frame, a full run that meets its level ends there
     went-on : (run : ℕ) (latch : Bool) → RunIs es run latch → ¬ T latch → LatchOn kind next
@@ -175,7 +179,7 @@ module _ (kind : Kind) where
               (t .0, t .1, t .2 .run, λ n a b. near n (t .2 .meets n a b));
         }
 
--- ---- a channel: its window and its two kinds of run, whatever these are, and the age and the slot by which the next frame goes
+-- ---- a channel: its window and its two kinds of run, whatever these are, and the clock by which the next frame goes
 
 module _ (lossKind overKind : Kind) where
   -- steps 1 to 4 of a frame, with these kinds of run
@@ -192,73 +196,58 @@ module _ (lossKind overKind : Kind) where
         «over_latch» = nextLatch overKind overRun (ch .«over_latch»);
       }
 
-  pub record ChannelIs (es : List Event) (age slot : ℕ) (ch : Channel) : Type 0 where
+  pub record ChannelIs (es : List Event) (t : Clock) (ch : Channel) : Type 0 where
     pub samples : ch .samples ≡ windowOf es (frames es)
     pub lossRun : RunIs lossKind es (ch .«loss_run») (ch .«loss_latch»)
     pub overRun : RunIs overKind es (ch .«over_run») (ch .«over_latch»)
-    pub aged : age ≡ min settled (frames es)
-    pub placed : slot ≡ frames es % 8
+    pub clock : ClockIs es t
 
 -- its latches go by the rule
 module _ (lossKind overKind : Kind) (loss-some : 0 < lossKind .len) (over-some : 0 < overKind .len) where
-  module _ {es : List Event} {age slot : ℕ} {ch : Channel} (v : ChannelIs lossKind overKind es age slot ch) where
+  module _ {es : List Event} {t : Clock} {ch : Channel} (v : ChannelIs lossKind overKind es t ch) where
     pub loss-rule : T (ch .«loss_latch») ↔ LatchOn lossKind es
     loss-rule = latch-rule lossKind loss-some es (ch .«loss_run») (ch .«loss_latch») (v .lossRun)
 
     pub over-rule : T (ch .«over_latch») ↔ LatchOn overKind es
     over-rule = latch-rule overKind over-some es (ch .«over_run») (ch .«over_latch») (v .overRun)
 
-  pub channel-fresh : ChannelIs lossKind overKind [] 0 0 freshChannel
+  pub channel-fresh : ChannelIs lossKind overKind [] freshClock freshChannel
   unfolding freshChannel windowOf table
   channel-fresh =
       record {
         samples = refl;
         lossRun = run-fresh lossKind loss-some;
         overRun = run-fresh overKind over-some;
-        aged = refl;
-        placed = refl;
+        clock = clock-fresh;
       }
 
-  pub channel-cleared : (es : List Event) (age slot : ℕ) (ch : Channel) → ChannelIs lossKind overKind es age slot ch
-      → ChannelIs lossKind overKind (es ▷ cleared) age slot (clearedOf ch)
-  channel-cleared es age slot ch v =
+  pub channel-cleared : (es : List Event) (t : Clock) (ch : Channel) → ChannelIs lossKind overKind es t ch
+      → ChannelIs lossKind overKind (es ▷ cleared) t (clearedOf ch)
+  channel-cleared es t ch v =
       record {
         samples = v .samples ∙ rw (inputs-cleared es) (sym (window-cleared es (frames es)));
         lossRun = run-cleared lossKind loss-some es;
         overRun = run-cleared overKind over-some es;
-        aged = rw (inputs-cleared es) (v .aged);
-        placed = rw (inputs-cleared es) (v .placed);
+        clock = clock-cleared es t (v .clock);
       }
 
-pub age-step : (age n : ℕ) → age ≡ min settled n → ageAfter age ≡ min settled (suc n)
-age-step age n e = by (ltb age settled) refl
-  where
-    by : (b : Bool) → ltb age settled ≡ b → cond b (age + 1) age ≡ min settled (suc n)
-    by true q = omega (arith, ltb-true age settled q)
-    by false q = omega (arith, ltb-false age settled q)
-
-pub slot-step : (slot n : ℕ) → slot ≡ n % 8 → slotAfter slot ≡ suc n % 8
-slot-step slot n e = by (ltb slot 7) refl
-  where
-    by : (b : Bool) → ltb slot 7 ≡ b → cond b (slot + 1) 0 ≡ suc n % 8
-    by true q = omega (arith, ltb-true slot 7 q)
-    by false q = omega (arith, ltb-false slot 7 q)
-
-pub channel-sampled : (lossKind overKind : Kind) → 0 < lossKind .len → 0 < overKind .len → (es : List Event) (age slot : ℕ) (ch : Channel) (code : ℕ)
-    (channelBit bit6 : Bool) → ChannelIs lossKind overKind es age slot ch
-    → ChannelIs lossKind overKind (es ▷ sampled (record { sample = sampleOf code; channelBit = channelBit; bit6 = bit6 })) (ageAfter age)
-    (slotAfter slot) (channelBy lossKind overKind slot (leb settled age) (channelBit && bit6) code ch)
-channel-sampled lossKind overKind loss-some over-some es age slot ch code channelBit bit6 v =
+pub channel-sampled : (lossKind overKind : Kind) → 0 < lossKind .len → 0 < overKind .len → (es : List Event) (t : Clock) (ch : Channel) (code : ℕ)
+    (channelBit bit6 : Bool) → ChannelIs lossKind overKind es t ch
+    → ChannelIs lossKind overKind (es ▷ sampled (record { sample = sampleOf code; channelBit = channelBit; bit6 = bit6 })) (ticked t bit6)
+    (channelBy lossKind overKind (t .slot) (countedBy t bit6) (channelBit && bit6) code ch)
+channel-sampled lossKind overKind loss-some over-some es t ch code channelBit bit6 v =
     record {
       samples = window ∙ rw frames-sampled;
-      lossRun = run-sampled lossKind es i loss-some age (ch .«loss_run») (ch .«loss_latch») _ (v .aged) window (v .lossRun);
-      overRun = run-sampled overKind es i over-some age (ch .«over_run») (ch .«over_latch») _ (v .aged) window (v .overRun);
-      aged = rw frames-sampled (age-step age (frames es) (v .aged));
-      placed = rw frames-sampled (slot-step slot (frames es) (v .placed));
+      lossRun = run-sampled lossKind es i loss-some (ch .«loss_run») (ch .«loss_latch») (countedBy t bit6) _ counted window (v .lossRun);
+      overRun = run-sampled overKind es i over-some (ch .«over_run») (ch .«over_latch») (countedBy t bit6) _ counted window (v .overRun);
+      clock = clock-sampled es i t (v .clock);
     }
   where
     i : Input
     i = record { sample = sampleOf code; channelBit = channelBit; bit6 = bit6 }
 
-    window : set (ch .samples) slot (sampleOf code) ≡ windowAt (es ▷ sampled i) (frames es)
-    window = ap₂ (λ (w : List ℤ) (k : ℕ). set w k (sampleOf code)) (v .samples) (v .placed) ∙ window-sampled es i
+    counted : T (countedBy t bit6) ↔ Counted (es ▷ sampled i) (frames es)
+    counted = counted-is es i t (v .clock)
+
+    window : set (ch .samples) (t .slot) (sampleOf code) ≡ windowAt (es ▷ sampled i) (frames es)
+    window = ap₂ (λ (w : List ℤ) (k : ℕ). set w k (sampleOf code)) (v .samples) (v .clock .placed) ∙ window-sampled es i

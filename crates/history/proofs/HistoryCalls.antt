@@ -1,7 +1,8 @@
 -- What the demand's own words give on closed lists of calls, computed: which calls and settings are accepted, what a channel meets, its window, its
 -- levels and tests, a full run and the margins on Z; and what our relay answers on the lists that Refutations goes by. They pin these words from
--- outside the relay. Rests on the definitions of the history, and takes the order of one exact amplitude from phasor's calls.
-use Prim.Native.Nat.{ℕ, zero, suc, _+_}
+-- outside the relay. Rests on the definitions of the history; takes the order of one exact amplitude from phasor's calls, and that a frame is counted
+-- from Settling.
+use Prim.Native.Nat.{ℕ, zero, suc, _+_, _<_}
 use native.Mathlib.Omega.{arith}
 use mathlib.Core.Path.{_≡_, refl, sym, subst}
 use mathlib.Core.Bool.{Bool, true, false, _&&_}
@@ -10,6 +11,7 @@ use lib.IntN.{ℤ, pos, negℤ}
 use lib.Dec.{T, eqb}
 use lib.ListN.{getD, set, replicate, getD-replicate}
 use borrow.Author.Tests.{eqb-true}
+use mir.Facts.{and-yes, yes-and}
 use Rattle.lists.specs.Each.{table}
 use Rattle.lists.proofs.Each.{every-at}
 use Rattle.phasor.proofs.Calls.{exact}
@@ -27,6 +29,8 @@ use Rattle.history.specs.Demand.{SurelyOver, PossiblyOver}
 use Rattle.history.specs.Demand.{Margins, levels, lossOf, overOf, LossMargins, OverMargins, relayAfter, lossAfter, overAfter, AcceptedSettings}
 use Rattle.history.proofs.Accepted.{range-says, restraints-say}
 use Rattle.history.proofs.Computed.{computed}
+use Rattle.history.proofs.Settling.{always-on, found-counted}
+use Rattle.history.proofs.Clock.{bit6In}
 
 -- ---- a list of calls with refused ones in it
 
@@ -136,8 +140,8 @@ pub record HistoryCalls : Type 0 where
   -- as many resets before a frame as came before it
   pub separated : table 3 (resetsBefore (channelHistory 1 story)) ≡ 0 ∷ 0 ∷ 1 ∷ []
   pub all-resets : (resets (channelHistory 0 story) ≡ 1) × (resets (channelHistory 1 story) ≡ 1) × (resets (channelHistory 2 story) ≡ 0)
-  -- "Frame n is counted if n is 72 or more"; "enabled in a frame if its bit and bit 6 are both 1"
-  pub counted : Counted (channelHistory 0 story) 72 × ¬ Counted (channelHistory 0 story) 71
+  -- "frame n is counted if n is 72 or more and ..": 88 frames with no rise; "enabled in a frame if its bit and bit 6 are both 1"
+  pub counted : Counted long 72 × ¬ Counted long 71
   pub enabled : Enabled (channelHistory 0 story) 0 × ¬ Enabled (channelHistory 5 story) 0 × ¬ Enabled (channelHistory 0 story) 2
   -- "in slot k the sample of the latest accepted frame up to n whose number mod 8 is k, 0 if there is none"
   pub filling : windowAt (channelHistory 2 (rising 12)) 2 ≡ pos 1 ∷ pos 2 ∷ pos 3 ∷ replicate 5 (pos 0)
@@ -224,7 +228,7 @@ calls =
       last-channel = refl;
       separated = refl;
       all-resets = (refl, refl, refl);
-      counted = (omega arith, λ h. absurd (omega arith));
+      counted = (found-counted (bit6In long) 72 refl, λ h. absurd (omega (arith, h .late)));
       enabled = (tt, λ h. absurd h, λ h. absurd h);
       filling = refl;
       separated-window = refl;
@@ -234,12 +238,12 @@ calls =
       full-run = record {
         within = omega (arith, all);
         each = λ n a b. record {
-          counted = a;
-          enabled = subst T (sym (every-at 88 (λ n. inputAt long n .channelBit && inputAt long n .bit6) refl n (omega arith))) tt;
+          counted = always-on (bit6In long) n a (λ k l. on k (omega arith) .1);
+          enabled = yes-and (inputAt long n .channelBit) (inputAt long n .bit6) (on n (omega arith) .0) (on n (omega arith) .1);
           notSeparated = eqb-true _ 0 (every-at 88 (λ n. eqb (resetsBefore long n) 0) refl n (omega arith));
         };
       };
-      too-early = λ r. absurd (omega (arith, r .each 71 (omega arith) (omega arith) .counted));
+      too-early = λ r. absurd (omega (arith, r .each 71 (omega arith) (omega arith) .counted .late));
       too-late = λ r. absurd (omega (arith, all, r .within));
       at87 = refl;
       at72 = refl;
@@ -264,3 +268,8 @@ calls =
   where
     all : frames long ≡ 88
     all = refl
+
+    on : (n : ℕ) → n < 88 → T (inputAt long n .channelBit) × T (inputAt long n .bit6)
+    on n l =
+        and-yes (inputAt long n .channelBit) (inputAt long n .bit6)
+        (subst T (sym (every-at 88 (λ n. inputAt long n .channelBit && inputAt long n .bit6) refl n l)) tt)

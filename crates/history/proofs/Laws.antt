@@ -1,20 +1,29 @@
 -- What demand 3 gives of any implementation that meets it, sentence by sentence, with the documents' levels and numbers written out. Each is a part
--- of the demand, so that a clause of it cannot be weakened unseen. Rests on the demand's definitions alone.
-use Prim.Native.Nat.{ℕ, _+_, _-_, _*_, _≤_, _<_}
-use mathlib.Core.Path.{_≡_, refl, sym}
-use mathlib.Core.Bool.{true, _||_}
+-- of the demand, so that a clause of it cannot be weakened unseen. Rests on the demand's definitions, and for what the age says on Settling.
+use Prim.Native.Nat.{ℕ, _+_, _-_, _*_, _≤_, _<_, min}
+use native.Mathlib.Omega.{arith}
+use mathlib.Core.Path.{_≡_, refl, sym, ap, _∙_, subst}
+use mathlib.Core.Logic.{_↔_}
+use mathlib.Core.Bool.{Bool, true, false, _||_}
 use mathlib.Core.List.{List, [], _∷_, _++_, append-nil}
 use lib.IntN.{pos, _+ℤ_, _-ℤ_}
-use lib.Dec.{T, ltb, eqb}
+use lib.Dec.{T, ltb, leb, eqb}
 use lib.ListN.{getD}
-use borrow.Author.Tests.{le-leb}
+use borrow.Author.Tests.{le-leb, leb-true}
+use Rattle.frames.specs.Bits.{bitOf}
 use Rattle.phasor.specs.Cordic.{amplitudeOf}
 use Rattle.phasor.specs.Exact.{AtLeast, AtMost}
 use Rattle.relay.specs.declared.Settings.{Settings}
+use Rattle.relay.specs.Settings.{settled}
 use Rattle.relay.specs.Sound.{soundOf}
-use Rattle.history.specs.Calls.{Codes, Call, frame, refusalOf, acceptedFrames, Implementation}
-use Rattle.history.specs.History.{Event, channelHistory, frames, windowAt, FullRun}
+use Rattle.relay.specs.Relay.{foundBy}
+use Rattle.history.specs.Calls.{Codes, Call, frame, refusalOf, acceptedFrames, deviceBit, Implementation}
+use Rattle.history.specs.History.{Event, channelHistory, frames, windowAt, Counted, FullRun}
+use Rattle.history.specs.Settling.{sinceRise}
 use Rattle.history.specs.Demand.{relayAfter, lossAfter, overAfter, RelayIs, FrameAnswered, CallAnswered, AcceptedSettings, Demanded}
+use Rattle.history.proofs.Clock.{bit6In}
+use Rattle.history.proofs.Relay.{device-same, bit-before, bit-last}
+use Rattle.history.proofs.Settling.{latest-same, since-same, ageAt, found-counted, counted-found}
 
 module _ (d : Implementation) (meets : Demanded d) (settings : Settings) (ok : AcceptedSettings settings) where
   -- what the relay is after a list of calls, and what a call answers after others
@@ -81,3 +90,51 @@ module _ (d : Implementation) (meets : Demanded d) (settings : Settings) (ok : A
         → (j : ℕ) × (j + 4 ≡ frames (history c)) × FullRun (history c) 4 j
         × ((n : ℕ) → j ≤ n → n < j + 4 → AtLeast 1 (windowAt (history c) n) (pos (getD (settings .pickup) (c - 3) 0) -ℤ pos 2) × Tested c n)
     over-near c k h = rw (le-leb 3 c k) at (answered .overMargins c k h .nearMargin)
+
+    -- Paper 5, what the age says: the frame is counted where it finds age 72, by the age and the memory that the relay was handed back with
+    pub counted-by-age : (c : ℕ)
+        → Counted (history c) (acceptedFrames past)
+        ↔ ((relayAfter d settings past .age ≡ 72) × ¬ (¬ T (relayAfter d settings past .«device_on») × T (bitOf enable 6)))
+    counted-by-age c = (
+      λ counted. by r-on (bitOf enable 6) (leb-true settled _ (subst (λ (m : ℕ). leb settled m ≡ true) found (counted-found f n counted))),
+      λ says. found-counted f n
+          (subst (λ (m : ℕ). leb settled m ≡ true) (sym found) (le-leb settled _ (back r-on (bitOf enable 6) (says .0) (says .1)))),
+    )
+      where
+        n : ℕ
+        n = acceptedFrames past
+
+        f : ℕ → Bool
+        f = bit6In (history c)
+
+        r-on : Bool
+        r-on = relayAfter d settings past .«device_on»
+
+        r-age : ℕ
+        r-age = relayAfter d settings past .age
+
+        bits : (k : ℕ) → k < acceptedFrames past → deviceBit past k ≡ bit6In (history c) k
+        bits k l = bit-before past codes enable taken k l ∙ device-same c calls k
+
+        age-is : r-age ≡ min 72 (sinceRise f n)
+        age-is = relay-says past .age ∙ ap (min 72) (since-same (deviceBit past) f n bits)
+
+        found : ageAt f n ≡ foundBy r-on (bitOf enable 6) r-age
+        found =
+            rw (
+              ← age-is,
+              relay-says past .remembered ∙ latest-same (deviceBit past) f n bits,
+              sym (device-same c calls n) ∙ bit-last past codes enable taken,
+            )
+
+        by : (on bit : Bool) → settled ≤ foundBy on bit r-age → (r-age ≡ 72) × ¬ (¬ T on × T bit)
+        by true true h = (omega (arith, age-is), λ p. p .0 tt)
+        by true false h = (omega (arith, age-is), λ p. p .1)
+        by false true h = absurd (omega arith)
+        by false false h = (omega (arith, age-is), λ p. p .1)
+
+        back : (on bit : Bool) → r-age ≡ 72 → ¬ (¬ T on × T bit) → settled ≤ foundBy on bit r-age
+        back true true e h = omega arith
+        back true false e h = omega arith
+        back false true e h = absurd (h (λ t. t, tt))
+        back false false e h = omega arith

@@ -1,13 +1,13 @@
 -- No wrong relay meets demand 3: what meets it answers as ours does (Unique), and on one list of calls or another a wrong relay does not. Most of
 -- these are frames of code 512 with every level 1 (document 01, "Bench figures"): "loss latches in frame 87; in frame 86 none". What ours answers is
--- computed in HistoryCalls. Relays that restrain wrongly are in Restraint. Rests on Unique.
+-- computed in HistoryCalls. Relays that restrain or settle wrongly are in Restraint and Unsettled. Rests on Unique.
 use Prim.Native.Nat.{ℕ, zero, suc, _≤_, _<_}
-use native.Mathlib.Decide.{decLe}
+use native.Mathlib.Decide.{decLe, decLt}
 use native.Mathlib.Omega.{arith}
-use mathlib.Core.Path.{_≡_, refl, sym, ap, _∙_}
+use mathlib.Core.Path.{_≡_, refl, sym, ap, _∙_, subst}
 use mathlib.Core.Bool.{Bool, true, false, cond, false≢true}
 use mathlib.Core.List.{List, [], _∷_, _++_}
-use lib.Dec.{leb, eqb}
+use lib.Dec.{T, leb, eqb}
 use lib.ListN.{getD, replicate}
 use Rattle.lists.specs.Each.{every, table}
 use Rattle.lists.proofs.Each.{getD-table}
@@ -19,17 +19,25 @@ use Rattle.relay.specs.declared.FreshAnswer.{FreshAnswer}
 use Rattle.relay.specs.declared.FrameAnswer.{FrameAnswer}
 use Rattle.relay.specs.declared.ResetAnswer.{ResetAnswer}
 use Rattle.relay.specs.Channel.{noChannel}
-use Rattle.relay.specs.Relay.{channelAt, zeroRelay, freshOf, amplitudeIn, frameOf, resetOf}
+use Rattle.relay.specs.Relay.{channelAt, zeroRelay, freshOf, ageFound, amplitudeIn, frameOf, resetOf}
 use Rattle.relay.proofs.Examples.{equalLevels}
-use Rattle.history.specs.Calls.{Call, frame, reset, frameRefusedBy, resetRefusedBy, acceptedFrames, Implementation, theRelay}
+use Rattle.history.specs.Calls.{Call, frame, reset, frameRefusedBy, resetRefusedBy, acceptedFrames, deviceBit, Implementation, theRelay}
+use Rattle.history.specs.History.{channelHistory, Counted}
 use Rattle.history.specs.Demand.{relayAfter, lossAfter, AcceptedSettings, Demanded}
 use Rattle.history.specs.WrongRelays.{EachFrame, EachReset, FixedLatches, Wrong, neverTrips, unaltered, fixedAmplitude}
-use Rattle.history.specs.WrongRelays.{fixedLatches, restartsAge, ignoresEnable, oneTooMany, refusesSettings, refusesReset}
+use Rattle.history.specs.WrongRelays.{fixedLatches, restartsAge, growsDisabled, oneTooMany, refusesSettings, refusesReset}
+use Rattle.history.specs.WrongRelays.{lossLatch, GoesOn}
 use Rattle.history.specs.WrongRelays.{ignoresRestraint, notStrict, thirdHarmonic, keepsRun, restrainsLoss, anothersRestraint}
+use Rattle.history.specs.WrongRelays.{neverSettles, settlesAtFall, countsTheRise, forgetsAtReset, remembersRefused}
 use Rattle.history.proofs.HistoryCalls.{ones, still, frames512, quiet, answerTo, calls}
 use Rattle.history.proofs.Laws.{answer-says}
-use Rattle.history.proofs.Relay.{frames-frame, after-end}
+use Rattle.history.proofs.Clock.{bit6In}
+use Rattle.history.proofs.Computed.{computed}
+use Rattle.history.proofs.Relay.{frames-frame, after-end, device-same, bit-before, bit-last}
 use Rattle.history.proofs.Restraint as restraint
+use Rattle.history.proofs.Settling.{always-on}
+use Rattle.history.proofs.Unsettled as unsettled
+use Rattle.history.proofs.WentOn as went-on
 use Rattle.history.proofs.Unique.{SameButRuns, SameAnswer, same-relay, same-frame}
 
 -- what they are shown by: accepted frames of code 512, under accepted settings
@@ -42,6 +50,20 @@ in-range = calls .lowest
 quiet-frames : (n : ℕ) → acceptedFrames (quiet n) ≡ n
 quiet-frames zero = refl
 quiet-frames (suc n) = frames-frame (quiet n) (still 512) 127 taken ∙ ap suc (quiet-frames n)
+
+-- bit 6 is on in each of them
+bit-step : (n k : ℕ) → (k < n → deviceBit (quiet n) k ≡ true) → k < suc n → Dec (k < n) → deviceBit (quiet (suc n)) k ≡ true
+bit-step n k old h (yes l) = sym (bit-before (quiet n) (still 512) 127 taken k (rw (quiet-frames n) l)) ∙ old l
+bit-step n k old h (no l) =
+    let last : k ≡ acceptedFrames (quiet n) = omega (arith, quiet-frames n) in
+    ap (deviceBit (quiet (suc n))) last ∙ bit-last (quiet n) (still 512) 127 taken
+
+quiet-bit : (n k : ℕ) → k < n → deviceBit (quiet n) k ≡ true
+quiet-bit zero k h = absurd (omega arith)
+quiet-bit (suc n) k h = bit-step n k (quiet-bit n k) h (decLt k n)
+
+quiet-on : (n k : ℕ) → k < n → T (bit6In (channelHistory 0 (quiet n)) k)
+quiet-on n k h = subst T (sym (quiet-bit n k h) ∙ device-same 0 (quiet n) k) tt
 
 -- m + 1 in place of each m
 abbrev OneMore : Implementation → Relay → List ℕ → ℕ → Type 0
@@ -83,6 +105,9 @@ module _ (d : Implementation) (meets : Demanded d) where
   fixed-latches wrong =
       false≢true (sym (calls .at72) ∙ sym (latch-same (quiet 73)) ∙ sym (repeated 87 (omega arith)) ∙ latch-same (quiet 88) ∙ calls .at87)
     where
+      counted : (n : ℕ) → 72 ≤ n → Counted (channelHistory 0 (quiet (suc n))) (acceptedFrames (quiet n))
+      counted n h = rw (quiet-frames n) (always-on (bit6In (channelHistory 0 (quiet (suc n)))) n h (λ k l. quiet-on (suc n) k (omega arith)))
+
       repeated : (n : ℕ) → 72 ≤ n → lossAfter d ones (quiet (suc n)) 0 ≡ lossAfter d ones (quiet 73) 0
       repeated zero h = absurd (omega arith)
       repeated (suc n) h = by (decLe 72 n) (repeated n)
@@ -91,25 +116,12 @@ module _ (d : Implementation) (meets : Demanded d) where
               → lossAfter d ones (quiet (suc (suc n))) 0 ≡ lossAfter d ones (quiet 73) 0
           by (yes l) more =
               ap (λ (r : Relay). channelAt r 0 .«loss_latch») (after-end d (d .fresh ones .relay) (quiet (suc n)) (frame (still 512) 127))
-              ∙ wrong ones in-range (quiet n) (still 512) (still 512) 127 127 taken taken (rw (quiet-frames n) l) 0
-              (omega arith) ∙ more l
+              ∙ wrong ones in-range (quiet n) (still 512) (still 512) 127 127 taken taken (counted n l) 0 (omega arith) ∙ more l
           by (no l) more = ap (λ (k : ℕ). lossAfter d ones (quiet (suc k)) 0) (let e : suc n ≡ 72 = omega arith in e)
 
   restarts-age : ¬ EachReset d (λ r mask. d .reset r mask .relay .age ≡ 0)
   restarts-age wrong =
       omega (arith, wrong ones in-range (quiet 1) 0 (calls .ends-taken .0), relay-same (quiet 1 ++ (reset 0 ∷ [])) .age, calls .ages .2)
-
-  ignores-enable : ¬ EachFrame d (λ r codes enable. d .frame r codes enable .relay ≡ d .frame r codes 127 .relay)
-  ignores-enable wrong =
-      false≢true (sym (calls .disabled) ∙ sym (latch-same (frames512 0 88)) ∙ ap (λ (r : Relay). channelAt r 0 .«loss_latch») (same 88)
-      ∙ latch-same (quiet 88) ∙ calls .at87)
-    where
-      same : (n : ℕ) → relayAfter d ones (frames512 0 n) ≡ relayAfter d ones (quiet n)
-      same zero = refl
-      same (suc n) =
-          let start : Relay = d .fresh ones .relay in
-          after-end d start (frames512 0 n) (frame (still 512) 0) ∙ wrong ones in-range (frames512 0 n) (still 512) 0 (calls .middle-taken .1)
-          ∙ ap (λ (r : Relay). d .frame r (replicate 6 512) 127 .relay) (same n) ∙ sym (after-end d start (quiet n) (frame (still 512) 127))
 
   one-too-many : ¬ EachFrame d (OneMore d)
   one-too-many wrong =
@@ -121,7 +133,7 @@ refuted d (unaltered wrong) meets = stays d meets wrong
 refuted d (fixedAmplitude m wrong) meets = fixed-amplitude d meets m wrong
 refuted d (fixedLatches wrong) meets = fixed-latches d meets wrong
 refuted d (restartsAge wrong) meets = restarts-age d meets wrong
-refuted d (ignoresEnable wrong) meets = ignores-enable d meets wrong
+refuted d (growsDisabled g off) meets = off (went-on.grows-disabled d meets g)
 refuted d (oneTooMany wrong) meets = one-too-many d meets wrong
 refuted d (refusesSettings settings ok wrong) meets = wrong (meets settings ok [] .made)
 refuted d (refusesReset settings ok past mask e wrong) meets = wrong (answer-says d meets settings ok past (reset mask) .0 e)
@@ -131,10 +143,17 @@ refuted d (thirdHarmonic k h wrong) meets = restraint.third-harmonic d meets k h
 refuted d (keepsRun k h wrong) meets = restraint.keeps-run d meets k h wrong
 refuted d (restrainsLoss k h wrong) meets = restraint.restrains-loss d meets k h wrong
 refuted d (anothersRestraint k l h m ne wrong) meets = restraint.anothers-restraint d meets k h l m ne wrong
+refuted d (neverSettles g t rise early) meets = unsettled.never-settles d meets g t rise early
+refuted d (settlesAtFall settings ok past codes enable e off old wrong) meets =
+    unsettled.settles-at-fall d meets settings ok past codes enable e off old wrong
+refuted d (countsTheRise g t rise late early) meets = unsettled.counts-the-rise d meets g t rise early
+refuted d (forgetsAtReset settings ok past mask e wrong) meets = wrong (unsettled.forgets-at-reset d meets settings ok past mask)
+refuted d (remembersRefused settings ok past codes enable e wrong) meets =
+    wrong (unsettled.remembers-refused d meets settings ok past codes enable e)
 
--- ---- there are such relays: ours, with one thing changed in what accepted calls answer; a refused call answers as it should
+-- ---- there are such relays: ours, with one thing changed in what accepted calls answer; a frame refused by 3 or 4 is answered as it should be
 
-abbrev changed : (Relay → List ℕ → ℕ → FrameAnswer → FrameAnswer) → Implementation
+abbrev pub changed : (Relay → List ℕ → ℕ → FrameAnswer → FrameAnswer) → Implementation
 changed f =
     record {
       fresh = freshOf;
@@ -145,8 +164,14 @@ changed f =
 abbrev withFresh : (Settings → FreshAnswer) → Implementation
 withFresh f = record { fresh = f; frame = frameOf; reset = resetOf }
 
-abbrev resetting : (Relay → ℕ → ResetAnswer) → Implementation
+abbrev pub resetting : (Relay → ℕ → ResetAnswer) → Implementation
 resetting f = record { fresh = freshOf; frame = frameOf; reset = f }
+
+abbrev pub withAge : ℕ → Relay → Relay
+withAge age r = record { channels = r .channels; age = age; slot = r .slot; «device_on» = r .«device_on»; settings = r .settings }
+
+abbrev pub withMemory : Bool → Relay → Relay
+withMemory on r = record { channels = r .channels; age = r .age; slot = r .slot; «device_on» = on; settings = r .settings }
 
 abbrev muted : Implementation
 muted = changed (λ r codes enable a. record { relay = a .relay; refusal = a .refusal; amplitudes = a .amplitudes; output = 0 })
@@ -181,7 +206,8 @@ frozenAt was r c =
     }
 
 abbrev refrozen : Relay → Relay → Relay
-refrozen was r = record { channels = table 6 (frozenAt was r); age = r .age; slot = r .slot; settings = r .settings }
+refrozen was r =
+    record { channels = table 6 (frozenAt was r); age = r .age; slot = r .slot; «device_on» = r .«device_on»; settings = r .settings }
 
 abbrev frozen : Implementation
 frozen = changed (λ r codes enable a. handing (refrozen r (a .relay)) a)
@@ -190,9 +216,15 @@ frozen = changed (λ r codes enable a. handing (refrozen r (a .relay)) a)
 abbrev enabling : Implementation
 enabling = changed (λ r codes enable a. frameOf r codes 127)
 
+-- the same of its runs alone: it remembers bit 6 and settles as it should
+abbrev growing : Implementation
+growing = changed (λ r codes enable a.
+    let b : FrameAnswer = frameOf (withMemory true (withAge (ageFound r enable) r)) codes 127 in
+    record { relay = withMemory (bitOf enable 6) (b .relay); refusal = b .refusal; amplitudes = b .amplitudes; output = a .output })
+
 -- age 0 after an accepted reset
 abbrev young : Relay → Relay
-young r = record { channels = r .channels; age = 0; slot = r .slot; settings = r .settings }
+young r = withAge 0 r
 
 abbrev restarted : Implementation
 restarted = resetting (λ r mask.
@@ -217,11 +249,34 @@ narrow-refuses : ¬ (narrow .fresh (equalLevels 10700 1) .refusal ≡ 0)
 unfolding every
 narrow-refuses e = absurd (omega arith)
 
-either : (b : Bool) (a : FrameAnswer) → cond b a a ≡ a
-either true a = refl
-either false a = refl
+-- Where the loss latch of channel 0 goes on in a last frame of code 512, every level 1.
+abbrev pub goes-on : (d : Implementation) (past : List Call) (enable : ℕ) → frameRefusedBy (replicate 6 512) enable ≡ 0
+    → lossAfter d ones past 0 ≡ false → lossAfter d ones (past ++ (frame (still 512) enable ∷ [])) 0 ≡ true → GoesOn d
+goes-on d past enable e was now =
+    record {
+      settings = ones;
+      accepted = calls .lowest;
+      past = past;
+      codes = still 512;
+      enable = enable;
+      taken = e;
+      latch = lossLatch;
+      channel = 0;
+      isChannel = omega arith;
+      was = λ t. subst T was t;
+      now = subst T (sym now) tt;
+    }
 
--- one implementation of each of the first nine kinds; those of restraint are in RestraintOnes
+record Facts : Type 0 where
+  off-taken : frameRefusedBy (replicate 6 512) 0x3F ≡ 0
+  enabling-on : (lossAfter enabling ones (frames512 0 87) 0 ≡ false) × (lossAfter enabling ones (frames512 0 88) 0 ≡ true)
+  growing-on : (lossAfter growing ones (frames512 0x3F 87) 0 ≡ false) × (lossAfter growing ones (frames512 0x3F 88) 0 ≡ true)
+
+facts : Facts
+unfolding computed
+facts = record { off-taken = refl; enabling-on = (refl, refl); growing-on = (refl, refl) }
+
+-- one implementation of each of the first nine kinds; those of restraint and of settling are in RestraintOnes and UnsettledOnes
 pub record WrongOnes : Type 0 where
   pub never-trips : Wrong muted
   pub unaltered-one : Wrong stuck
@@ -229,6 +284,7 @@ pub record WrongOnes : Type 0 where
   pub frozen-latches : Wrong frozen
   pub age-restarted : Wrong restarted
   pub enable-ignored : Wrong enabling
+  pub runs-disabled : Wrong growing
   pub one-more : Wrong increased
   pub all-refused : Wrong refusing
   pub high-refused : Wrong narrow
@@ -242,7 +298,10 @@ wrong-ones =
       one-amplitude = λ m. fixedAmplitude m (λ settings ok past codes enable e. rw e);
       frozen-latches = fixedLatches frozen-so;
       age-restarted = restartsAge (λ settings ok past mask e. rw e);
-      enable-ignored = ignoresEnable enabling-so;
+      enable-ignored = growsDisabled
+          (goes-on enabling (frames512 0 87) 0 (calls .middle-taken .1) (facts .enabling-on .0) (facts .enabling-on .1)) (λ t. t);
+      runs-disabled = growsDisabled
+          (goes-on growing (frames512 0x3F 87) 0x3F (facts .off-taken) (facts .growing-on .0) (facts .growing-on .1)) (λ t. t);
       one-more = oneTooMany more-so;
       all-refused = refusesSettings ones in-range (λ e. absurd (omega arith));
       high-refused = refusesSettings (equalLevels 10700 1) (calls .highest-drops) narrow-refuses;
@@ -253,11 +312,6 @@ wrong-ones =
     frozen-so settings ok past one two enableOne enableTwo e k h c l =
         let r : Relay = relayAfter frozen settings (past ++ (frame one enableOne ∷ [])) in
         rw k (ap (λ (ch : Channel). ch .«loss_latch») (getD-table 6 (frozenAt r (frameOf r (two .list) enableTwo .relay)) noChannel c l))
-
-    enabling-so : EachFrame enabling (λ r codes enable. enabling .frame r codes enable .relay ≡ enabling .frame r codes 127 .relay)
-    enabling-so settings ok past codes enable e =
-        let r : Relay = relayAfter enabling settings past in
-        rw e (sym (ap (λ (a : FrameAnswer). a .relay) (either (eqb (frameRefusedBy (codes .list) 127) 0) (frameOf r (codes .list) 127))))
 
     more-so : EachFrame increased (OneMore increased)
     more-so settings ok past codes enable e c l =

@@ -1,12 +1,13 @@
--- The relay after a list of calls: it is sound, and its settings, age, slot and six channels are those that the calls tell.
+-- The relay after a list of calls: it is sound, and its settings, age, slot, memory and six channels are those that the calls tell.
 -- One step for a call at the end, by cases on its refusal; then every list. Rests on Channel and on the laws of the relay's definitions.
-use Prim.Native.Nat.{ℕ, suc, _<_}
+use Prim.Native.Nat.{ℕ, zero, suc, _<_}
 use native.Mathlib.Decide.{ℕ-discrete}
 use native.Mathlib.Omega.{arith}
-use mathlib.Core.Path.{_≡_, refl, sym, ap, _∙_}
+use mathlib.Core.Path.{_≡_, refl, sym, ap, ap₂, _∙_}
 use mathlib.Core.Bool.{Bool, true, false, _&&_, cond}
 use mathlib.Core.List.{List, [], _∷_, _++_, append-nil, append-assoc}
-use lib.ListN.{getD}
+use lib.ListN.{length, getD, List·getD-append}
+use lib.Seq.{getD-append-seam}
 use borrow.Author.Tests.{ne-eqb}
 use Rattle.relay.specs.declared.Settings.{Settings}
 use Rattle.relay.specs.declared.Relay.{Relay}
@@ -14,14 +15,16 @@ use Rattle.frames.specs.Bits.{bitOf}
 use Rattle.relay.specs.Settings.{levelsOf, loss, over}
 use Rattle.relay.specs.Channel.{clearedOf, channelAfter}
 use Rattle.relay.specs.Sound.{soundOf}
-use Rattle.relay.specs.Relay.{channelAt, freshRelay, nextChannel, acceptedFrame, resetChannel, acceptedReset}
+use Rattle.relay.specs.Relay.{channelAt, unusedRelay, freshRelay, nextChannel, acceptedFrame, resetChannel, acceptedReset}
 use Rattle.relay.proofs.Laws.{fresh-is, fresh-sound, fresh-channel, frame-sound, frame-channel, reset-sound, reset-channel}
 use Rattle.history.specs.Calls.{Codes, Call, frame, reset, frameRefusedBy, resetRefusedBy, refusalOf, isAccepted, acceptedFrames}
+use Rattle.history.specs.Calls.{deviceBits, deviceBit}
 use Rattle.history.specs.Calls.{Implementation, theRelay, handedBack, after}
 use Rattle.history.specs.History.{Input, Event, sampled, cleared, inputOf, eventsOf, channelHistory, frames}
 use Rattle.history.specs.Demand.{levels, relayAfter, AcceptedSettings}
 use Rattle.history.proofs.Accepted.{frame-codes, frame-accepted, frame-refused, reset-accepted, reset-refused, settings-sound}
 use Rattle.history.proofs.History.{_▷_, frames-sampled}
+use Rattle.history.proofs.Clock.{clockOf, bit6In}
 use Rattle.history.proofs.Channel.{ChannelIs, channel-fresh, channel-cleared, channel-sampled}
 
 -- ---- each channel's history of the calls
@@ -65,12 +68,70 @@ frames-frame calls codes enable e =
     sym (frames-same 0 (calls ++ (frame codes enable ∷ []))) ∙ ap frames (history-frame 0 calls codes enable e)
     ∙ frames-sampled (channelHistory 0 calls) (inputOf 0 (codes .list) enable) ∙ ap suc (frames-same 0 calls)
 
+-- and frame n has the same bit 6 in each
+one-bit : (b : Bool) (i : Input) (bits : List Bool) (es : List Event) → ((n : ℕ) → getD bits n false ≡ bit6In es n)
+    → (n : ℕ) → getD (cond b (i .bit6 ∷ bits) bits) n false ≡ bit6In (cond b (sampled i ∷ []) [] ++ es) n
+one-bit true i bits es same zero = refl
+one-bit true i bits es same (suc n) = same n
+one-bit false i bits es same n = same n
+
+no-bit : (b : Bool) (es : List Event) (n : ℕ) → bit6In es n ≡ bit6In (cond b (cleared ∷ []) [] ++ es) n
+no-bit true es n = refl
+no-bit false es n = refl
+
+pub device-same : (c : ℕ) (calls : List Call) (n : ℕ) → deviceBit calls n ≡ bit6In (channelHistory c calls) n
+device-same c [] n = refl
+device-same c (frame codes enable ∷ calls) n =
+    one-bit (isAccepted (frame codes enable)) (inputOf c (codes .list) enable) (deviceBits calls) (channelHistory c calls) (device-same c calls) n
+device-same c (reset mask ∷ calls) n =
+    device-same c calls n ∙ no-bit (isAccepted (reset mask) && bitOf mask c) (channelHistory c calls) n
+
+-- bit 6 of each accepted frame after a frame more, and after a reset
+length-bits : (calls : List Call) → length (deviceBits calls) ≡ acceptedFrames calls
+length-bits [] = refl
+length-bits (frame codes enable ∷ calls) = by (isAccepted (frame codes enable)) (length-bits calls)
+  where
+    by : (b : Bool) {n : ℕ} → length (deviceBits calls) ≡ n
+        → length (cond b (bitOf enable 6 ∷ deviceBits calls) (deviceBits calls)) ≡ cond b (suc n) n
+    by true e = ap suc e
+    by false e = e
+length-bits (reset mask ∷ calls) = length-bits calls
+
+bits-end : (calls : List Call) (call : Call) → deviceBits (calls ++ (call ∷ [])) ≡ deviceBits calls ++ deviceBits (call ∷ [])
+bits-end [] call = refl
+bits-end (frame codes enable ∷ calls) call = rw (bits-end calls call) (by (isAccepted (frame codes enable)))
+  where
+    by : (b : Bool) → cond b (bitOf enable 6 ∷ (deviceBits calls ++ deviceBits (call ∷ []))) (deviceBits calls ++ deviceBits (call ∷ []))
+        ≡ cond b (bitOf enable 6 ∷ deviceBits calls) (deviceBits calls) ++ deviceBits (call ∷ [])
+    by true = refl
+    by false = refl
+bits-end (reset mask ∷ calls) call = bits-end calls call
+
+pub bits-reset : (calls : List Call) (mask : ℕ) → deviceBits (calls ++ (reset mask ∷ [])) ≡ deviceBits calls
+bits-reset calls mask = bits-end calls (reset mask) ∙ append-nil (deviceBits calls)
+
+pub frames-reset : (calls : List Call) (mask : ℕ) → acceptedFrames (calls ++ (reset mask ∷ [])) ≡ acceptedFrames calls
+frames-reset calls mask = sym (length-bits (calls ++ (reset mask ∷ []))) ∙ ap length (bits-reset calls mask) ∙ length-bits calls
+
+module _ (calls : List Call) (codes : Codes) (enable : ℕ) (taken : frameRefusedBy (codes .list) enable ≡ 0) where
+  bits-frame : deviceBits (calls ++ (frame codes enable ∷ [])) ≡ deviceBits calls ++ (bitOf enable 6 ∷ [])
+  bits-frame = bits-end calls (frame codes enable) ∙ rw taken
+
+  pub bit-before : (k : ℕ) → k < acceptedFrames calls → deviceBit calls k ≡ deviceBit (calls ++ (frame codes enable ∷ [])) k
+  bit-before k l = sym (ap (λ (bits : List Bool). getD bits k false) bits-frame
+      ∙ List·getD-append (deviceBits calls) (bitOf enable 6 ∷ []) false k (rw length-bits l))
+
+  pub bit-last : deviceBit (calls ++ (frame codes enable ∷ [])) (acceptedFrames calls) ≡ bitOf enable 6
+  bit-last =
+      ap₂ (λ (bits : List Bool) (k : ℕ). getD bits k false) bits-frame (sym (length-bits calls))
+      ∙ getD-append-seam (deviceBits calls) (bitOf enable 6) [] false
+
 -- ---- the relay
 
 module _ (settings : Settings) where
   -- channel c of the relay is as its own history of the calls says
   abbrev AtChannel : List Call → Relay → ℕ → Type 0
-  AtChannel calls r c = ChannelIs (loss (levels settings c)) (over (levels settings c)) (channelHistory c calls) (r .age) (r .slot) (channelAt r c)
+  AtChannel calls r c = ChannelIs (loss (levels settings c)) (over (levels settings c)) (channelHistory c calls) (clockOf r) (channelAt r c)
 
   pub record Is (calls : List Call) (r : Relay) : Type 0 where
     pub sound : soundOf r ≡ true
@@ -78,7 +139,7 @@ module _ (settings : Settings) where
     pub kept : r .settings ≡ settings
 
   fresh-is-so : AcceptedSettings settings → Is [] (freshRelay settings)
-  unfolding freshRelay
+  unfolding unusedRelay
   fresh-is-so ok =
       record {
         sound = fresh-sound settings (settings-sound settings ok);
@@ -95,8 +156,7 @@ module _ (settings : Settings) where
         sound = frame-sound r (codes .list) enable (v .sound) (frame-codes (codes .list) enable e);
         channel = λ c h. rw (frame-channel r (codes .list) enable c h, history-frame c calls codes enable e, v .kept)
             (channel-sampled (loss (levels settings c)) (over (levels settings c)) (omega arith) (omega arith) (channelHistory c calls)
-            (r .age) (r .slot) (channelAt r c) (getD (codes .list) c 0)
-            (bitOf enable c) (bitOf enable 6) (v .channel c h));
+            (clockOf r) (channelAt r c) (getD (codes .list) c 0) (bitOf enable c) (bitOf enable 6) (v .channel c h));
         kept = v .kept;
       }
 
@@ -111,11 +171,11 @@ module _ (settings : Settings) where
       }
     where
       named : (c : ℕ) (b : Bool) → AtChannel calls r c
-          → ChannelIs (loss (levels settings c)) (over (levels settings c)) (channelHistory c calls ++ cond b (cleared ∷ []) []) (r .age) (r .slot)
+          → ChannelIs (loss (levels settings c)) (over (levels settings c)) (channelHistory c calls ++ cond b (cleared ∷ []) []) (clockOf r)
           (cond b (clearedOf (channelAt r c)) (channelAt r c))
       named c true w =
           channel-cleared (loss (levels settings c)) (over (levels settings c)) (omega arith) (omega arith) (channelHistory c calls)
-          (r .age) (r .slot) (channelAt r c) w
+          (clockOf r) (channelAt r c) w
       named c false w = rw append-nil w
 
   refused-is : (calls : List Call) (r : Relay) (call : Call) → ¬ (refusalOf call ≡ 0) → Is calls r → Is (calls ++ (call ∷ [])) r

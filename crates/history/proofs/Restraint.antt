@@ -19,6 +19,8 @@ use Rattle.history.specs.History.{Event, channelHistory, frames, inputAt
 use Rattle.history.specs.Demand.{lossAfter, overAfter, AcceptedSettings, Demanded}
 use Rattle.history.specs.WrongRelays.{TripsBy, overPickup, overBy, overAtMost, overByThird, KeepsRun, lossTested, RestrainsLoss}
 use Rattle.history.proofs.Computed.{computed}
+use Rattle.history.proofs.Settling.{always-on}
+use Rattle.history.proofs.Clock.{bit6In}
 use Rattle.history.proofs.HistoryCalls.{still, restrained, in-range}
 use Rattle.history.proofs.Relay.{frames-same}
 use Rattle.history.proofs.Unique.{same-relay}
@@ -63,14 +65,17 @@ full-run es len j h w e =
     record {
       within = w;
       each = λ n a b. record {
-        counted = omega arith;
-        enabled = subst T (sym (and-left (inputAt es n .channelBit && inputAt es n .bit6) (eqb (resetsBefore es n) 0) (at n (omega arith)))) tt;
+        counted = always-on (bit6In es) n (omega arith) (λ k l. and-yes (inputAt es k .channelBit) (inputAt es k .bit6) (on k (omega arith)) .1);
+        enabled = on n (omega arith);
         notSeparated = none n (omega arith) ∙ sym (none j (omega arith));
       };
     }
   where
     at : (n : ℕ) → n < frames es → clearAt es n ≡ true
     at = every-at (frames es) (clearAt es) (and-left _ _ e)
+
+    on : (n : ℕ) → n < frames es → T (inputAt es n .channelBit && inputAt es n .bit6)
+    on n l = subst T (sym (and-left (inputAt es n .channelBit && inputAt es n .bit6) (eqb (resetsBefore es n) 0) (at n l))) tt
 
     none : (n : ℕ) → n < frames es → resetsBefore es n ≡ 0
     none n l = eqb-true (resetsBefore es n) 0 (and-right (inputAt es n .channelBit && inputAt es n .bit6) _ (at n l))
@@ -315,7 +320,7 @@ module _ (d : Implementation) (meets : Demanded d) (k : ℕ) (h : k < 3) where
           (m .meets 72 (omega (arith, last)) (omega (arith, first)))
         where
           first : 72 ≤ j
-          first = m .run .each j (omega arith) (omega arith) .counted
+          first = m .run .each j (omega arith) (omega arith) .counted .late
 
           last : j + 16 ≤ 88
           last = subst (λ (n : ℕ). j + 16 ≤ n) (frames-same (k + 3) long ∙ facts .frames-long) (m .run .within)

@@ -23,21 +23,23 @@ use Rattle.relay.specs.declared.Settings.{Settings}
 use Rattle.relay.specs.declared.Relay.{Relay}
 use Rattle.relay.specs.declared.FrameAnswer.{FrameAnswer}
 use Rattle.relay.specs.declared.ResetAnswer.{ResetAnswer}
-use Rattle.relay.specs.Settings.{Kind, settled}
+use Rattle.relay.specs.Settings.{Kind}
 use Rattle.relay.specs.Channel.{noChannel, freshChannel, clearedOf, runAfter, nextRun, nextLatch, latchOn}
-use Rattle.relay.specs.Relay.{channelAt, freshRelay, freshOf, counted, ageAfter, slotAfter, amplitudeIn, resetChannel, acceptedReset}
+use Rattle.relay.specs.Relay.{channelAt, unusedRelay, freshRelay, freshOf, ageFound, counted, ageAfter, slotAfter, amplitudeIn}
+use Rattle.relay.specs.Relay.{resetChannel, acceptedReset}
 use Rattle.relay.proofs.Laws.{fresh-is, fresh-channel, reset-channel}
 use Rattle.history.specs.Calls.{Codes, Call, frame, reset, frameRefusedBy, resetRefusedBy, refusalOf, Implementation, handedBack, after}
 use Rattle.history.specs.History.{Input, Event, sampled, cleared, channelHistory, frames, resets, resetsBefore, windowOf, windowAt}
-use Rattle.history.specs.History.{InEach, InRun, LatchOn}
+use Rattle.history.specs.History.{Counted, InEach, InRun, LatchOn}
 use Rattle.history.specs.Demand.{harmonicTest, levels, lossOf, overOf, relayAfter, lossAfter, overAfter, AcceptedSettings}
 use Rattle.history.specs.WrongRelays.{TripsBy, overPickup, overBy, overAtMost, overByThird, KeepsRun, RestrainsLoss, Wrong}
 use Rattle.history.specs.WrongRelays.{ignoresRestraint, notStrict, thirdHarmonic, keepsRun, restrainsLoss, anothersRestraint}
 use Rattle.history.proofs.Accepted.{settings-sound}
 use Rattle.history.proofs.History.{_▷_, frames-sampled, inputs-cleared, input-last, resets-cleared}
 use Rattle.history.proofs.History.{before-append, before-le, window-cleared, window-sampled}
+use Rattle.history.proofs.Clock.{Clock, clockOf, freshClock, countedBy, ticked, ClockIs, clock-fresh, clock-cleared, clock-sampled, counted-is}
 use Rattle.history.proofs.Channel.{Live, live-same, ChannelIs, channelBy, loss-rule, over-rule}
-use Rattle.history.proofs.Channel.{channel-fresh, channel-cleared, channel-sampled, age-step, slot-step}
+use Rattle.history.proofs.Channel.{channel-fresh, channel-cleared, channel-sampled}
 use Rattle.history.proofs.Relay.{history-frame, history-reset, history-refused}
 
 -- ---- ours, with what an accepted frame makes of a channel changed
@@ -48,15 +50,16 @@ Making = Settings → ℕ → ℕ → Bool → Bool → ℕ → Channel → Chan
 
 module _ (make : Making) where
   abbrev madeAt : Relay → List ℕ → ℕ → ℕ → Channel
-  madeAt r codes enable c = make (r .settings) c (r .slot) (counted r) (enabledIn enable c) (getD codes c 0) (channelAt r c)
+  madeAt r codes enable c = make (r .settings) c (r .slot) (counted r enable) (enabledIn enable c) (getD codes c 0) (channelAt r c)
 
   abbrev framed : Relay → List ℕ → ℕ → FrameAnswer
   framed r codes enable =
       record {
         relay = record {
           channels = table 6 (madeAt r codes enable);
-          age = ageAfter (r .age);
+          age = ageAfter (ageFound r enable);
           slot = slotAfter (r .slot);
+          «device_on» = bitOf enable 6;
           settings = r .settings;
         };
         refusal = 0;
@@ -74,21 +77,21 @@ module _ (make : Making) where
             (record { relay = r; refusal = resetRefusedBy mask });
       }
 
-  -- ---- a claim about each channel, its history of the calls, the age and the slot, that each call keeps
+  -- ---- a claim about each channel, its history of the calls and the clock, that each call keeps
 
-  module _ (settings : Settings) (ok : AcceptedSettings settings) (Holds : ℕ → List Event → ℕ → ℕ → Channel → Type 0)
-      (at-fresh : (c : ℕ) → Holds c [] 0 0 freshChannel)
-      (at-frame : (c : ℕ) (es : List Event) (age slot code : ℕ) (channelBit bit6 : Bool) (ch : Channel) → Holds c es age slot ch
-      → Holds c (es ▷ sampled (record { sample = sampleOf code; channelBit = channelBit; bit6 = bit6 })) (ageAfter age) (slotAfter slot)
-      (make settings c slot (leb settled age) (channelBit && bit6) code ch))
-      (at-reset : (c : ℕ) (es : List Event) (age slot : ℕ) (ch : Channel) → Holds c es age slot ch → Holds c (es ▷ cleared) age slot (clearedOf ch))
+  module _ (settings : Settings) (ok : AcceptedSettings settings) (Holds : ℕ → List Event → Clock → Channel → Type 0)
+      (at-fresh : (c : ℕ) → Holds c [] freshClock freshChannel)
+      (at-frame : (c : ℕ) (es : List Event) (t : Clock) (code : ℕ) (channelBit bit6 : Bool) (ch : Channel) → Holds c es t ch
+      → Holds c (es ▷ sampled (record { sample = sampleOf code; channelBit = channelBit; bit6 = bit6 })) (ticked t bit6)
+      (make settings c (t .slot) (countedBy t bit6) (channelBit && bit6) code ch))
+      (at-reset : (c : ℕ) (es : List Event) (t : Clock) (ch : Channel) → Holds c es t ch → Holds c (es ▷ cleared) t (clearedOf ch))
     where
       pub record Is (calls : List Call) (r : Relay) : Type 0 where
-        pub channel : (c : ℕ) → c < 6 → Holds c (channelHistory c calls) (r .age) (r .slot) (channelAt r c)
+        pub channel : (c : ℕ) → c < 6 → Holds c (channelHistory c calls) (clockOf r) (channelAt r c)
         pub kept : r .settings ≡ settings
 
       fresh-so : Is [] (freshRelay settings)
-      unfolding freshRelay
+      unfolding unusedRelay
       fresh-so = record { channel = λ c h. rw (fresh-channel settings c h) (at-fresh c); kept = refl }
 
       frame-so : (calls : List Call) (r : Relay) (codes : Codes) (enable : ℕ) → frameRefusedBy (codes .list) enable ≡ 0 → Is calls r
@@ -96,7 +99,7 @@ module _ (make : Making) where
       frame-so calls r codes enable e v =
           record {
             channel = λ c h. rw (getD-table 6 (madeAt r (codes .list) enable) noChannel c h, history-frame c calls codes enable e, v .kept)
-                (at-frame c (channelHistory c calls) (r .age) (r .slot) (getD (codes .list) c 0) (bitOf enable c) (bitOf enable 6) (channelAt r c)
+                (at-frame c (channelHistory c calls) (clockOf r) (getD (codes .list) c 0) (bitOf enable c) (bitOf enable 6) (channelAt r c)
                 (v .channel c h));
             kept = v .kept;
           }
@@ -110,9 +113,9 @@ module _ (make : Making) where
             kept = v .kept;
           }
         where
-          named : (c : ℕ) (b : Bool) → Holds c (channelHistory c calls) (r .age) (r .slot) (channelAt r c)
-              → Holds c (channelHistory c calls ++ cond b (cleared ∷ []) []) (r .age) (r .slot) (cond b (clearedOf (channelAt r c)) (channelAt r c))
-          named c true w = at-reset c (channelHistory c calls) (r .age) (r .slot) (channelAt r c) w
+          named : (c : ℕ) (b : Bool) → Holds c (channelHistory c calls) (clockOf r) (channelAt r c)
+              → Holds c (channelHistory c calls ++ cond b (cleared ∷ []) []) (clockOf r) (cond b (clearedOf (channelAt r c)) (channelAt r c))
+          named c true w = at-reset c (channelHistory c calls) (clockOf r) (channelAt r c) w
           named c false w = rw append-nil w
 
       call-so : (calls : List Call) (r : Relay) (call : Call) → Dec (refusalOf call ≡ 0) → Is calls r
@@ -148,12 +151,12 @@ module _ (lossKinds overKinds : Kinds) (loss-some : (s : Settings) (c : ℕ) →
   d = making (withKinds lossKinds overKinds)
 
   channel-is : (c : ℕ) → c < 6 → ChannelIs (lossKinds settings c) (overKinds settings c) (channelHistory c calls)
-      (relayAfter d settings calls .age) (relayAfter d settings calls .slot) (channelAt (relayAfter d settings calls) c)
+      (clockOf (relayAfter d settings calls)) (channelAt (relayAfter d settings calls) c)
   channel-is =
       making-is (withKinds lossKinds overKinds) settings ok (λ c. ChannelIs (lossKinds settings c) (overKinds settings c))
       (λ c. channel-fresh (lossKinds settings c) (overKinds settings c) (loss-some settings c) (over-some settings c))
-      (λ c es age slot code channelBit bit6 ch.
-      channel-sampled (lossKinds settings c) (overKinds settings c) (loss-some settings c) (over-some settings c) es age slot ch code channelBit bit6)
+      (λ c es t code channelBit bit6 ch.
+      channel-sampled (lossKinds settings c) (overKinds settings c) (loss-some settings c) (over-some settings c) es t ch code channelBit bit6)
       (λ c. channel-cleared (lossKinds settings c) (overKinds settings c) (loss-some settings c) (over-some settings c)) calls .channel
 
   -- their latches go by the rule with these kinds
@@ -247,22 +250,20 @@ module _ (settings : Settings) (c : ℕ) where
   abbrev H : Kind
   H = record { len = 4; meets = heldBack settings c }
 
-  record Kept (es : List Event) (age slot : ℕ) (ch : Channel) : Type 0 where
+  record Kept (es : List Event) (t : Clock) (ch : Channel) : Type 0 where
     samples : ch .samples ≡ windowOf es (frames es)
-    aged : age ≡ min settled (frames es)
-    placed : slot ≡ frames es % 8
+    clock : ClockIs es t
     fed : (i : ℕ) → i ≤ frames es → InEach (frames es - i) i (Live F es) → min 4 i ≤ ch .«over_run»
     held : (i last : ℕ) → suc last ≡ frames es → i ≤ last → InEach (last - i) i (Live F es) → Live H es last → min 4 i ≤ ch .«over_run»
     on : (j : ℕ) → j + 5 ≡ frames es → InEach j 3 (Live F es) → Live H es (j + 3) → Live F es (j + 4) → T (ch .«over_latch»)
 
   -- the start, and a reset: no frame is live
-  none-kept : (es : List Event) (age slot : ℕ) (ch : Channel) → ch .samples ≡ windowOf es (frames es) → age ≡ min settled (frames es)
-      → slot ≡ frames es % 8 → ((kind : Kind) (n : ℕ) → n < frames es → ¬ Live kind es n) → Kept es age slot ch
-  none-kept es age slot ch s a p none =
+  none-kept : (es : List Event) (t : Clock) (ch : Channel) → ch .samples ≡ windowOf es (frames es) → ClockIs es t
+      → ((kind : Kind) (n : ℕ) → n < frames es → ¬ Live kind es n) → Kept es t ch
+  none-kept es t ch s clock none =
       record {
         samples = s;
-        aged = a;
-        placed = p;
+        clock = clock;
         fed = empty;
         held = λ i last e l f h. absurd (none H last (omega arith) h);
         on = λ j e f h g. absurd (none H (j + 3) (omega arith) h);
@@ -272,14 +273,14 @@ module _ (settings : Settings) (c : ℕ) where
       empty zero l f = omega arith
       empty (suc i) l f = absurd (none F (frames es - suc i) (omega arith) (f (frames es - suc i) (omega arith) (omega arith)))
 
-  kept-fresh : Kept [] 0 0 freshChannel
+  kept-fresh : Kept [] freshClock freshChannel
   unfolding freshChannel windowOf table
-  kept-fresh = none-kept [] 0 0 freshChannel refl refl refl (λ kind n h. absurd (omega arith))
+  kept-fresh = none-kept [] freshClock freshChannel refl clock-fresh (λ kind n h. absurd (omega arith))
 
-  kept-cleared : (es : List Event) (age slot : ℕ) (ch : Channel) → Kept es age slot ch → Kept (es ▷ cleared) age slot (clearedOf ch)
-  kept-cleared es age slot ch v =
-      none-kept (es ▷ cleared) age slot (clearedOf ch) (v .samples ∙ rw (inputs-cleared es) (sym (window-cleared es (frames es))))
-      (rw (inputs-cleared es) (v .aged)) (rw (inputs-cleared es) (v .placed)) none
+  kept-cleared : (es : List Event) (t : Clock) (ch : Channel) → Kept es t ch → Kept (es ▷ cleared) t (clearedOf ch)
+  kept-cleared es t ch v =
+      none-kept (es ▷ cleared) t (clearedOf ch) (v .samples ∙ rw (inputs-cleared es) (sym (window-cleared es (frames es))))
+      (clock-cleared es t (v .clock)) none
     where
       none : (kind : Kind) (n : ℕ) → n < frames (es ▷ cleared) → ¬ Live kind (es ▷ cleared) n
       none kind n h b =
@@ -287,7 +288,7 @@ module _ (settings : Settings) (c : ℕ) where
           omega (arith, before-append es (cleared ∷ []) n l, b .3, resets-cleared es, before-le es n)
 
   -- ---- a frame
-  module _ (es : List Event) (i : Input) (age : ℕ) (e : age ≡ min settled (frames es)) (w : List ℤ)
+  module _ (es : List Event) (i : Input) (isCounted : Bool) (e : T isCounted ↔ Counted (es ▷ sampled i) (frames es)) (w : List ℤ)
       (q : w ≡ windowAt (es ▷ sampled i) (frames es)) where
     abbrev next : List Event
     next = es ▷ sampled i
@@ -296,10 +297,10 @@ module _ (settings : Settings) (c : ℕ) where
     enabled = i .channelBit && i .bit6
 
     abbrev ran : ℕ → ℕ
-    ran run = cond (leb settled age && (enabled && heldBack settings c w)) run (runAfter (leb settled age) (enabled && F .meets w) 4 run)
+    ran run = cond (isCounted && (enabled && heldBack settings c w)) run (runAfter isCounted (enabled && F .meets w) 4 run)
 
-    is-counted : (kind : Kind) → Live kind next (frames es) → leb settled age ≡ true
-    is-counted kind l = le-leb settled age (omega (arith, l .0))
+    is-counted : (kind : Kind) → Live kind next (frames es) → isCounted ≡ true
+    is-counted kind l = T-is isCounted (e .1 (l .0))
 
     is-enabled : (kind : Kind) → Live kind next (frames es) → enabled ≡ true
     is-enabled kind l = T-is enabled (rw input-last at (l .1))
@@ -307,7 +308,7 @@ module _ (settings : Settings) (c : ℕ) where
     is-met : (kind : Kind) → Live kind next (frames es) → kind .meets w ≡ true
     is-met kind l = T-is (kind .meets w) (subst (λ (v : List ℤ). T (kind .meets v)) (sym q) (l .2))
 
-    grows : (run : ℕ) → Live F next (frames es) → runAfter (leb settled age) (enabled && F .meets w) 4 run ≡ min 4 (suc run)
+    grows : (run : ℕ) → Live F next (frames es) → runAfter isCounted (enabled && F .meets w) 4 run ≡ min 4 (suc run)
     grows run l = rw (is-counted F l, is-enabled F l, is-met F l)
 
     fed-run : (run : ℕ) → Live F next (frames es) → ran run ≡ min 4 (suc run)
@@ -326,15 +327,14 @@ module _ (settings : Settings) (c : ℕ) where
     before : (kind : Kind) (n : ℕ) → n < frames es → Live kind next n → Live kind es n
     before kind n h = live-same kind es i n h .1
 
-  kept-sampled : (es : List Event) (age slot code : ℕ) (channelBit bit6 : Bool) (ch : Channel) → Kept es age slot ch
-      → Kept (es ▷ sampled (record { sample = sampleOf code; channelBit = channelBit; bit6 = bit6 })) (ageAfter age) (slotAfter slot)
-      (keeps settings c slot (leb settled age) (channelBit && bit6) code ch)
+  kept-sampled : (es : List Event) (t : Clock) (code : ℕ) (channelBit bit6 : Bool) (ch : Channel) → Kept es t ch
+      → Kept (es ▷ sampled (record { sample = sampleOf code; channelBit = channelBit; bit6 = bit6 })) (ticked t bit6)
+      (keeps settings c (t .slot) (countedBy t bit6) (channelBit && bit6) code ch)
   unfolding nextRun
-  kept-sampled es age slot code channelBit bit6 ch v =
+  kept-sampled es t code channelBit bit6 ch v =
       record {
         samples = window ∙ rw frames-sampled;
-        aged = rw frames-sampled (age-step age (frames es) (v .aged));
-        placed = rw frames-sampled (slot-step slot (frames es) (v .placed));
+        clock = clock-sampled es ev t (v .clock);
         fed = rw frames-sampled fed;
         held = rw frames-sampled held;
         on = rw frames-sampled on;
@@ -350,37 +350,40 @@ module _ (settings : Settings) (c : ℕ) where
       run = ch .«over_run»
 
       w : List ℤ
-      w = set (ch .samples) slot (sampleOf code)
+      w = set (ch .samples) (t .slot) (sampleOf code)
 
       window : w ≡ windowAt (es ▷ sampled ev) (frames es)
-      window = ap₂ (λ (u : List ℤ) (k : ℕ). set u k (sampleOf code)) (v .samples) (v .placed) ∙ window-sampled es ev
+      window = ap₂ (λ (u : List ℤ) (k : ℕ). set u k (sampleOf code)) (v .samples) (v .clock .placed) ∙ window-sampled es ev
+
+      counts : T (countedBy t bit6) ↔ Counted (es ▷ sampled ev) (frames es)
+      counts = counted-is es ev t (v .clock)
 
       run′ : ℕ
-      run′ = ran es ev age (v .aged) w window run
+      run′ = ran es ev (countedBy t bit6) counts w window run
 
       fed : (i : ℕ) → i ≤ suc n → InEach (suc n - i) i (Live F (es ▷ sampled ev)) → min 4 i ≤ run′
       fed zero l f = omega arith
       fed (suc i) l f =
           let old : min 4 i ≤ run = v .fed i (omega arith)
-          (λ m a b. before es ev age (v .aged) w window F m (omega arith) (f m (omega arith) (omega arith))) in
-          omega (arith, fed-run es ev age (v .aged) w window run (f n (omega arith) (omega arith)))
+          (λ m a b. before es ev (countedBy t bit6) counts w window F m (omega arith) (f m (omega arith) (omega arith))) in
+          omega (arith, fed-run es ev (countedBy t bit6) counts w window run (f n (omega arith) (omega arith)))
 
       held : (i last : ℕ) → suc last ≡ suc n → i ≤ last → InEach (last - i) i (Live F (es ▷ sampled ev)) → Live H (es ▷ sampled ev) last
           → min 4 i ≤ run′
       held i last q l f h =
           let same : last ≡ n = omega arith in
           let old : min 4 i ≤ run = v .fed i (omega arith)
-          (λ m a b. before es ev age (v .aged) w window F m (omega arith) (f m (omega arith) (omega arith))) in
-          omega (arith, held-run es ev age (v .aged) w window run (subst (Live H (es ▷ sampled ev)) same h))
+          (λ m a b. before es ev (countedBy t bit6) counts w window F m (omega arith) (f m (omega arith) (omega arith))) in
+          omega (arith, held-run es ev (countedBy t bit6) counts w window run (subst (Live H (es ▷ sampled ev)) same h))
 
       on : (j : ℕ) → j + 5 ≡ suc n → InEach j 3 (Live F (es ▷ sampled ev)) → Live H (es ▷ sampled ev) (j + 3) → Live F (es ▷ sampled ev) (j + 4)
-          → T (nextLatch F (runAfter (leb settled age) ((channelBit && bit6) && F .meets w) 4 run) (ch .«over_latch»))
+          → T (nextLatch F (runAfter (countedBy t bit6) ((channelBit && bit6) && F .meets w) 4 run) (ch .«over_latch»))
       on j q f h g =
           let three : 3 ≤ run = v .held 3 (j + 3) (omega arith) (omega arith)
-          (λ m a b. before es ev age (v .aged) w window F m (omega arith) (f m (omega arith) (omega arith)))
-          (before es ev age (v .aged) w window H (j + 3) (omega arith) h) in
+          (λ m a b. before es ev (countedBy t bit6) counts w window F m (omega arith) (f m (omega arith) (omega arith)))
+          (before es ev (countedBy t bit6) counts w window H (j + 3) (omega arith) h) in
           let last : j + 4 ≡ n = omega arith in
-          latched (ch .«over_latch») _ (grows es ev age (v .aged) w window run (subst (Live F (es ▷ sampled ev)) last g) ∙ four run three)
+          latched (ch .«over_latch») _ (grows es ev (countedBy t bit6) counts w window run (subst (Live F (es ▷ sampled ev)) last g) ∙ four run three)
 
 -- the relay whose runs are kept fits its kind
 keeps-run : (k : ℕ) → k < 3 → KeepsRun (making keeps) k
@@ -390,7 +393,7 @@ keeps-run k h settings ok calls j e run after fed over not-fed last =
     es : List Event
     es = channelHistory (k + 3) calls
 
-    v : Kept settings (k + 3) es (relayAfter (making keeps) settings calls .age) (relayAfter (making keeps) settings calls .slot)
+    v : Kept settings (k + 3) es (clockOf (relayAfter (making keeps) settings calls))
         (channelAt (relayAfter (making keeps) settings calls) (k + 3))
     v = making-is keeps settings ok (λ c. Kept settings c) (λ c. kept-fresh settings c) (λ c. kept-sampled settings c) (λ c. kept-cleared settings c)
         calls .channel (k + 3) (omega arith)

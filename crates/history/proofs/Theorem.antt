@@ -2,7 +2,7 @@
 -- Rests on Relay (what the relay is after a list), Channel (the rule for a latch), Windows, and on what is proved of the amplitude.
 use Prim.Native.Nat.{ℕ, suc, _%_, _≤_, _<_, min}
 use native.Mathlib.Omega.{arith}
-use mathlib.Core.Path.{_≡_, refl, ap, _∙_}
+use mathlib.Core.Path.{_≡_, refl, sym, ap, _∙_}
 use mathlib.Core.Logic.{_↔_, _⊎_, inl, inr, ⊎-elim}
 use mathlib.Core.Bool.{Bool, true, false, _&&_, _||_}
 use mathlib.Core.List.{List, [], _∷_, _++_}
@@ -24,15 +24,18 @@ use Rattle.relay.specs.Settings.{settled, loss, over}
 use Rattle.relay.specs.Channel.{windowAfter, channelAfter}
 use Rattle.relay.specs.Relay.{channelAt, freshOf, counted, nextChannel, amplitudeIn, outputIn, acceptedFrame, frameOf, acceptedReset}
 use Rattle.relay.proofs.Laws.{nextOf, fresh-accepted, fresh-is, frame-channel}
-use Rattle.history.specs.Calls.{Codes, Call, frame, reset, frameRefusedBy, acceptedFrames, theRelay}
-use Rattle.history.specs.History.{Input, sampled, inputOf, channelHistory, inputAt, windowOf, windowAt, Enabled}
+use Rattle.history.specs.Calls.{Codes, Call, frame, reset, frameRefusedBy, acceptedFrames, deviceBit, theRelay}
+use Rattle.history.specs.Settling.{latestBit, sinceRise}
+use Rattle.history.specs.History.{Input, Event, sampled, inputOf, channelHistory, inputAt, windowOf, windowAt, Enabled}
 use Rattle.history.specs.Demand.{harmonicTest, SurelyBelowDrop, PossiblyBelowDrop, SurelyOver, PossiblyOver, LossMargins, OverMargins}
 use Rattle.history.specs.Demand.{levels, lossOf, overOf, LossOn, OverOn, relayAfter, lossAfter, overAfter, RelayIs}
 use Rattle.history.specs.Demand.{FrameAnswered, CallAnswered, Demand3, AcceptedSettings, Demanded}
 use Rattle.history.proofs.Accepted.{frame-accepted, frame-refused, reset-accepted, reset-refused, settings-sound, settings-accepted}
 use Rattle.history.proofs.History.{_▷_, input-last}
+use Rattle.history.proofs.Settling.{latest-same, since-same}
+use Rattle.history.proofs.Clock.{clockOf, bit6In, ClockIs}
 use Rattle.history.proofs.Channel.{ChannelIs, loss-rule, over-rule, margins}
-use Rattle.history.proofs.Relay.{Is, relay-is, frame-is, history-frame, frames-same, frames-frame}
+use Rattle.history.proofs.Relay.{Is, relay-is, frame-is, history-frame, frames-same, frames-frame, device-same}
 use Rattle.history.proofs.Windows.{window-sound}
 
 -- a latch is on and the channel is enabled
@@ -51,10 +54,16 @@ module _ (settings : Settings) (ok : AcceptedSettings settings) where
   relay-clause : (calls : List Call) → RelayIs theRelay settings calls
   relay-clause calls =
       let v : Is settings calls (relay calls) = is calls in
+      let first : List Event = channelHistory 0 calls in
+      let clock : ClockIs first (clockOf (relay calls)) = v .channel 0 (omega arith) .clock in
+      let bits : (k : ℕ) → k < acceptedFrames calls → bit6In first k ≡ deviceBit calls k = λ k l. sym (device-same 0 calls k) in
       record {
         sound = v .sound;
-        age = v .channel 0 (omega arith) .aged ∙ ap (min settled) (frames-same 0 calls);
-        slot = v .channel 0 (omega arith) .placed ∙ ap (λ (n : ℕ). n % 8) (frames-same 0 calls);
+        remembered = clock .remembered ∙ ap (latestBit (bit6In first)) (frames-same 0 calls)
+            ∙ latest-same (bit6In first) (deviceBit calls) (acceptedFrames calls) bits;
+        age = clock .aged ∙ ap (λ (n : ℕ). min settled (sinceRise (bit6In first) n)) (frames-same 0 calls)
+            ∙ ap (min settled) (since-same (bit6In first) (deviceBit calls) (acceptedFrames calls) bits);
+        slot = clock .placed ∙ ap (λ (n : ℕ). n % 8) (frames-same 0 calls);
         samples = λ c h. v .channel c h .samples ∙ ap (windowOf (channelHistory c calls)) (frames-same c calls);
         lossLatch = λ c h. loss-rule _ _ (omega arith) (omega arith) (v .channel c h);
         overLatch = λ c h. over-rule _ _ (omega arith) (omega arith) (v .channel c h);
@@ -84,7 +93,7 @@ module _ (settings : Settings) (ok : AcceptedSettings settings) where
     next c = nextOf (relay past) (codes .list) enable c
 
     next-is : (c : ℕ) → c < 6
-        → ChannelIs (loss (levels settings c)) (over (levels settings c)) (channelHistory c calls) (answer .relay .age) (answer .relay .slot) (next c)
+        → ChannelIs (loss (levels settings c)) (over (levels settings c)) (channelHistory c calls) (clockOf (answer .relay)) (next c)
     next-is c h =
         rw (frame-channel (relay past) (codes .list) enable c h) at (frame-is settings past (relay past) codes enable taken (is past) .channel c h)
 
@@ -99,7 +108,7 @@ module _ (settings : Settings) (ok : AcceptedSettings settings) where
 
     -- the output, before it is made a byte
     abbrev bits : ℕ → Bool
-    bits = outputIn (relay past .settings) (relay past .slot) (counted (relay past)) (codes .list) enable (relay past .channels)
+    bits = outputIn (relay past .settings) (relay past .slot) (counted (relay past) enable) (codes .list) enable (relay past .channels)
 
     output-is : (c : ℕ) → c < 6 → T (bitOf (answer .output) c)
         ↔ ((LossOn settings c calls ⊎ OverOn settings c calls) × Enabled (channelHistory c calls) (acceptedFrames past))

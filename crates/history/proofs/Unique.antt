@@ -1,6 +1,6 @@
 -- On lists from accepted settings demand 3 leaves open the runs alone (and what a list of channels holds past the sixth, which the code's array
--- has not): any implementation that meets it answers every call as our relay does, and hands back the same settings, age, slot, samples and
--- latches. Rests on demand 3 for our relay, and on bytes being known by their bits.
+-- has not): any implementation that meets it answers every call as our relay does, and hands back the same settings, memory of bit 6, age,
+-- slot, samples and latches. Rests on demand 3 for our relay, and on bytes being known by their bits.
 use Prim.Native.Nat.{ℕ, zero, suc, _/_, _%_, _^_, _<_}
 use native.Mathlib.Nat.{pow-succ', div-div-eq-div-mul}
 use native.Mathlib.Decide.{ℕ-discrete}
@@ -25,6 +25,7 @@ use Rattle.history.proofs.Theorem.{demand3}
 -- all of two relays but their runs
 pub record SameButRuns (r s : Relay) : Type 0 where
   pub settings : r .settings ≡ s .settings
+  pub remembered : r .«device_on» ≡ s .«device_on»
   pub age : r .age ≡ s .age
   pub slot : r .slot ≡ s .slot
   pub samples : (c : ℕ) → c < 6 → channelAt r c .samples ≡ channelAt s c .samples
@@ -76,6 +77,7 @@ module _ (d : Implementation) (meets : Demanded d) (settings : Settings) (ok : A
       let o : RelayIs theRelay settings calls = relay-says theRelay demand3 settings ok calls in
       record {
         settings = t .kept ∙ sym (o .kept);
+        remembered = t .remembered ∙ sym (o .remembered);
         age = t .age ∙ sym (o .age);
         slot = t .slot ∙ sym (o .slot);
         samples = λ c h. t .samples c h ∙ sym (o .samples c h);

@@ -4,7 +4,7 @@
 -- would be met. Rests on the relay's three calls.
 use Prim.Native.Nat.{ℕ, suc}
 use mathlib.Core.Path.{_≡_}
-use mathlib.Core.Bool.{Bool, _||_, cond}
+use mathlib.Core.Bool.{Bool, false, _||_, cond}
 use mathlib.Core.List.{List, [], _∷_}
 use lib.Dec.{leb, eqb}
 use lib.ListN.{length, getD}
@@ -54,6 +54,16 @@ acceptedFrames [] = 0
 acceptedFrames (frame codes enable ∷ calls) =
     cond (isAccepted (frame codes enable)) (suc (acceptedFrames calls)) (acceptedFrames calls)
 acceptedFrames (reset mask ∷ calls) = acceptedFrames calls
+
+-- bit 6 of each accepted frame, in order; and of frame n
+abbrev pub deviceBits : List Call → List Bool
+deviceBits [] = []
+deviceBits (frame codes enable ∷ calls) =
+    cond (isAccepted (frame codes enable)) (bitOf enable 6 ∷ deviceBits calls) (deviceBits calls)
+deviceBits (reset mask ∷ calls) = deviceBits calls
+
+abbrev pub deviceBit : List Call → ℕ → Bool
+deviceBit calls n = getD (deviceBits calls) n false
 
 -- What answers the three calls. Demand 3 is stated for any implementation, so that a wrong one can be shown not to meet
 -- it.

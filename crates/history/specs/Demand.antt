@@ -23,7 +23,8 @@ use Rattle.relay.specs.declared.ResetAnswer.{ResetAnswer}
 use Rattle.relay.specs.Settings.{Kind}
 use Rattle.relay.specs.Sound.{soundOf}
 use Rattle.relay.specs.Relay.{channelAt}
-use Rattle.history.specs.Calls.{Call, frame, reset, refusalOf, acceptedFrames, Implementation, after}
+use Rattle.history.specs.Calls.{Call, frame, reset, refusalOf, acceptedFrames, deviceBit, Implementation, after}
+use Rattle.history.specs.Settling.{latestBit, sinceRise}
 use Rattle.history.specs.History.{Event, channelHistory, frames, windowOf, windowAt}
 use Rattle.history.specs.History.{Enabled, InEach, FullRun, LatchOn}
 
@@ -122,8 +123,11 @@ module _ (d : Implementation) (settings : Settings) where
   pub record RelayIs (calls : List Call) : Type 0 where
     -- "Refusal 2 never occurs in it"
     pub sound : soundOf (relayAfter calls) ≡ true
-    -- so a frame "found age 72" exactly where its number is 72 or more; "frame n goes to slot n mod 8"
-    pub age : relayAfter calls .age ≡ min 72 (acceptedFrames calls)
+    -- Paper 5: "The relay remembers whether bit 6 was on in the latest accepted frame; a fresh relay remembers on"; and
+    -- its age is the number of accepted frames since the latest rise, it included, or since the start, at most 72
+    pub remembered : relayAfter calls .«device_on» ≡ latestBit (deviceBit calls) (acceptedFrames calls)
+    pub age : relayAfter calls .age ≡ min 72 (sinceRise (deviceBit calls) (acceptedFrames calls))
+    -- "frame n goes to slot n mod 8"
     pub slot : relayAfter calls .slot ≡ acceptedFrames calls % 8
     pub samples : (c : ℕ) → c < 6
         → channelAt (relayAfter calls) c .samples ≡ windowOf (channelHistory c calls) (acceptedFrames calls)

@@ -1,6 +1,6 @@
 -- The latch history, read from the calls alone and never from the relay (document 01, "Frames, runs, latches, resets").
--- 512, 8 and 72 stand as document 01's own numbers, as in Demand and for its reason. Rests on the lists of calls and
--- the two kinds of run.
+-- 512 and 8 stand as document 01's own numbers, as in Demand and for its reason. Rests on the lists of calls, the rule
+-- for counted frames and the two kinds of run.
 use Prim.Native.Nat.{ℕ, zero, suc, _+_, _%_, _≤_, _<_}
 use mathlib.Core.Path.{_≡_}
 use mathlib.Core.Bool.{Bool, false, _&&_, cond}
@@ -12,6 +12,7 @@ use Rattle.lists.specs.Each.{table}
 use Rattle.frames.specs.Bits.{bitOf}
 use Rattle.relay.specs.Settings.{Kind}
 use Rattle.history.specs.Calls.{Call, frame, reset, isAccepted}
+use Rattle.history.specs.Settling.{CountedIn}
 
 -- What an accepted frame is to one channel: its sample, its enable bit and bit 6.
 pub record Input : Type 0 where
@@ -80,9 +81,9 @@ windowOf es n = table 8 (latestInSlot es n)
 abbrev pub windowAt : List Event → ℕ → List ℤ
 windowAt es n = windowOf es (suc n)
 
--- "Frame n is counted if n is 72 or more." The history is not used here; a later request makes it matter.
+-- "Counted frames in the latch history mean frames counted under this rule" (document 02, Paper 5)
 abbrev pub Counted : List Event → ℕ → Type 0
-Counted es n = 72 ≤ n
+Counted es n = CountedIn (λ k. inputAt es k .bit6) n
 
 -- "A channel is enabled in a frame if its bit and bit 6 are both 1."
 abbrev pub Enabled : List Event → ℕ → Type 0

@@ -1,4 +1,5 @@
 pub mod Calls
 pub mod Demand
 pub mod History
+pub mod Settling
 pub mod WrongRelays

@@ -1,22 +1,25 @@
 -- Wrong relays: those that document 01 names under "What a promise says here", 3, two of its "Mistakes to keep out",
--- three more, and those that restrain wrongly (document 02, Paper 8). Each is said of any implementation by the one
--- thing that it does wrong to calls that the documents accept, in lists from a relay made with accepted settings,
--- whatever else it does. None meets demand 3. Rests on the lists of calls.
+-- three more, and those that restrain or settle wrongly (document 02, Papers 8 and 5). Each is said of any
+-- implementation by the one thing that it does wrong in lists from a relay made with accepted settings, whatever else
+-- it does; for some of them one place where it shows is enough. None meets demand 3. Rests on the lists of calls.
 use Prim.Native.Nat.{ℕ, suc, _+_, _*_, _≤_, _<_}
 use mathlib.Core.Path.{_≡_}
+use mathlib.Core.Logic.{_⊎_}
 use mathlib.Core.Bool.{Bool, _&&_, _||_}
 use mathlib.Core.List.{List, [], _∷_, _++_}
 use lib.IntN.{ℤ}
 use lib.Dec.{T, ltb, leb, eqb}
 use lib.ListN.{getD, replicate}
+use Rattle.frames.specs.Bits.{bitOf}
 use Rattle.phasor.specs.Cordic.{amplitudeOf}
 use Rattle.relay.specs.declared.Settings.{Settings}
 use Rattle.relay.specs.declared.Relay.{Relay}
 use Rattle.relay.specs.Settings.{Kind}
 use Rattle.relay.specs.Relay.{channelAt, amplitudeIn}
-use Rattle.history.specs.Calls.{Codes, Call, frame, reset, refusalOf, acceptedFrames, Implementation}
+use Rattle.history.specs.Calls.{Codes, Call, frame, reset, refusalOf, acceptedFrames, deviceBit, Implementation}
+use Rattle.history.specs.Settling.{riseIn}
 use Rattle.history.specs.History.{Event, channelHistory, frames, resets, resetsBefore, windowAt}
-use Rattle.history.specs.History.{InEach, FullRun, LatchOn}
+use Rattle.history.specs.History.{Counted, InEach, FullRun, LatchOn}
 use Rattle.history.specs.Demand.{harmonicTest, relayAfter, lossAfter, overAfter, AcceptedSettings}
 
 -- P holds of each accepted frame in these lists: of the relay that it is given, its codes and its enable byte
@@ -38,9 +41,10 @@ SameLatches r s = (c : ℕ) → c < 6 → channelAt r c .«loss_latch» ≡ chan
 abbrev pub FixedLatches : Implementation → Type 0
 FixedLatches d =
     (settings : Settings) → AcceptedSettings settings → (past : List Call) (one two : Codes) (enableOne enableTwo : ℕ)
-    → refusalOf (frame one enableOne) ≡ 0 → refusalOf (frame two enableTwo) ≡ 0 → 72 ≤ acceptedFrames past
-    → (let r : Relay = relayAfter d settings (past ++ (frame one enableOne ∷ [])) in
-    SameLatches (d .frame r (two .list) enableTwo .relay) r)
+    → refusalOf (frame one enableOne) ≡ 0 → refusalOf (frame two enableTwo) ≡ 0
+    → (let calls : List Call = past ++ (frame one enableOne ∷ []) in
+    let r : Relay = relayAfter d settings calls in
+    Counted (channelHistory 0 calls) (acceptedFrames past) → SameLatches (d .frame r (two .list) enableTwo .relay) r)
 
 -- The over latch of channel c goes on by another test than the demand's: where a full over run (document 01's term)
 -- that meets the test lies after the last reset that names the channel, the latch is on.
@@ -96,6 +100,45 @@ RestrainsLoss d k =
     (settings : Settings) → AcceptedSettings settings → (calls : List Call) → T (lossAfter d settings calls (k + 3))
     → LatchOn (lossTested settings k) (channelHistory (k + 3) calls)
 
+-- A channel's two latches, and the frames of a full run of each: "16 (loss) or 4 (over)"
+pub data Latch : Type 0 where
+  lossLatch : Latch
+  overLatch : Latch
+
+abbrev pub latchAfter : Implementation → Latch → Settings → List Call → ℕ → Bool
+latchAfter d lossLatch = lossAfter d
+latchAfter d overLatch = overAfter d
+
+abbrev pub runOf : Latch → ℕ
+runOf lossLatch = 16
+runOf overLatch = 4
+
+-- In some accepted frame, after the calls `past`, a latch goes on that was off before it.
+pub record GoesOn (d : Implementation) : Type 0 where
+  pub settings : Settings
+  pub accepted : AcceptedSettings settings
+  pub past : List Call
+  pub codes : Codes
+  pub enable : ℕ
+  pub taken : refusalOf (frame codes enable) ≡ 0
+  pub latch : Latch
+  pub channel : ℕ
+  pub isChannel : channel < 6
+  pub was : ¬ T (latchAfter d latch settings past channel)
+  pub now : T (latchAfter d latch settings (past ++ (frame codes enable ∷ [])) channel)
+
+module _ {d : Implementation} (g : GoesOn d) where
+  -- the number of that frame, and the calls with it
+  abbrev pub numberOf : ℕ
+  numberOf = acceptedFrames (g .past)
+
+  abbrev pub callsOf : List Call
+  callsOf = g .past ++ (frame (g .codes) (g .enable) ∷ [])
+
+  -- frame t, that one or one before it, is a rise (Paper 5)
+  abbrev pub Risen : ℕ → Type 0
+  Risen t = (t ≤ numberOf) × T (riseIn (deviceBit callsOf) t)
+
 pub data Wrong (d : Implementation) : Type 0 where
   -- "a relay that never trips"
   neverTrips : EachFrame d (λ r codes enable. d .frame r codes enable .output ≡ 0) → Wrong d
@@ -108,9 +151,8 @@ pub data Wrong (d : Implementation) : Type 0 where
   fixedLatches : FixedLatches d → Wrong d
   -- "restarting age at a reset"
   restartsAge : EachReset d (λ r mask. d .reset r mask .relay .age ≡ 0) → Wrong d
-  -- "growing a run over a disabled frame": the enable byte makes no difference to the relay handed back
-  ignoresEnable : EachFrame d (λ r codes enable. d .frame r codes enable .relay ≡ d .frame r codes 127 .relay)
-      → Wrong d
+  -- "growing a run over a disabled frame": a latch goes on in a frame in which its channel is not enabled
+  growsDisabled : (g : GoesOn d) → ¬ T (bitOf (g .enable) (g .channel) && bitOf (g .enable) 6) → Wrong d
   -- m + 1 in place of each m: close to Z, and yet not "the six m"
   oneTooMany : EachFrame d (λ r codes enable. (c : ℕ) → c < 6
       → getD (d .frame r codes enable .amplitudes) c 0 ≡ suc (amplitudeIn (r .slot) codes (r .channels) c)) → Wrong d
@@ -131,3 +173,23 @@ pub data Wrong (d : Implementation) : Type 0 where
   restrainsLoss : (k : ℕ) → k < 3 → RestrainsLoss d k → Wrong d
   -- current k takes the r of another current, l
   anothersRestraint : (k l : ℕ) → k < 3 → l < 3 → ¬ (l ≡ k) → TripsBy d (k + 3) (overBy l k) → Wrong d
+  -- Paper 5: never settles again; a latch goes on in one of the 72 frames from a rise on
+  neverSettles : (g : GoesOn d) (t : ℕ) → Risen g t → numberOf g < t + 72 → Wrong d
+  -- settles at the fall: a frame with bit 6 off leaves age 1 or less, where the age was 1 or more
+  settlesAtFall : (settings : Settings) → AcceptedSettings settings → (past : List Call) (codes : Codes) (enable : ℕ)
+      → refusalOf (frame codes enable) ≡ 0 → ¬ T (bitOf enable 6) → 1 ≤ relayAfter d settings past .age
+      → d .frame (relayAfter d settings past) (codes .list) enable .relay .age ≤ 1 → Wrong d
+  -- finds age 72 in the rising frame, so that a run has that frame too: a latch goes on after the settling, but when
+  -- fewer frames were counted since than its full run has
+  countsTheRise : (g : GoesOn d) (t : ℕ) → Risen g t → t + 72 ≤ numberOf g
+      → numberOf g + 1 < t + 72 + runOf (g .latch) → Wrong d
+  -- forgets at a reset: an accepted reset alters what the relay remembers
+  forgetsAtReset : (settings : Settings) → AcceptedSettings settings → (past : List Call) (mask : ℕ)
+      → refusalOf (reset mask) ≡ 0
+      → (let r : Relay = relayAfter d settings past in
+      ¬ (d .reset r mask .relay .«device_on» ≡ r .«device_on»)) → Wrong d
+  -- remembers a refused frame: it alters what the relay remembers
+  remembersRefused : (settings : Settings) → AcceptedSettings settings → (past : List Call) (codes : Codes)
+      (enable : ℕ) → ¬ (refusalOf (frame codes enable) ≡ 0)
+      → (let r : Relay = relayAfter d settings past in
+      ¬ (d .frame r (codes .list) enable .relay .«device_on» ≡ r .«device_on»)) → Wrong d

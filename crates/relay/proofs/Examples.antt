@@ -61,16 +61,24 @@ abbrev pub still : List Channel
 still = replicate 6 (channel 0 0 false false)
 
 abbrev relay : ℕ → ℕ → List Channel → Relay
-relay age slot channels = record { channels = channels; age = age; slot = slot; settings = equalLevels 819 3413 }
+relay age slot channels = record { channels = channels; age = age; slot = slot; «device_on» = true; settings = equalLevels 819 3413 }
+
+-- the same relay after a frame with bit 6 off
+abbrev pub deviceOff : Relay → Relay
+deviceOff r = record { channels = r .channels; age = r .age; slot = r .slot; «device_on» = false; settings = r .settings }
+
+-- "all-zero": it remembers bit 6 as off
+abbrev pub allZero : Relay
+allZero = record { channels = still; age = 0; slot = 0; «device_on» = false; settings = equalLevels 0 0 }
 
 -- a frame of codes 512 that is accepted: the amplitudes are 0
 abbrev acceptedAnswer : Relay → ℕ → FrameAnswer
 acceptedAnswer r output = record { relay = r; refusal = 0; amplitudes = replicate 6 0; output = output }
 
-abbrev refusedAnswer : Relay → ℕ → FrameAnswer
+abbrev pub refusedAnswer : Relay → ℕ → FrameAnswer
 refusedAnswer r refusal = record { relay = r; refusal = refusal; amplitudes = replicate 6 0; output = 0 }
 
-abbrev resetAnswer : Relay → ℕ → ResetAnswer
+abbrev pub resetAnswer : Relay → ℕ → ResetAnswer
 resetAnswer r refusal = record { relay = r; refusal = refusal }
 
 -- a settled relay with a loss run on each channel and an over run on each current, all latches on or all off
@@ -80,11 +88,12 @@ running drop pickup lossRun overRun latch =
       channels = replicate 3 (channel lossRun 0 latch false) ++ replicate 3 (channel lossRun overRun latch latch);
       age = 72;
       slot = 0;
+      «device_on» = true;
       settings = equalLevels drop pickup;
     }
 
 -- a channel after a first sample of 100
-abbrev struck : ℕ → ℕ → Bool → Bool → Channel
+abbrev pub struck : ℕ → ℕ → Bool → Bool → Channel
 struck lossRun overRun lossLatch overLatch =
     record { samples = pos 100 ∷ replicate 7 (pos 0); «loss_run» = lossRun; «over_run» = overRun; «loss_latch» = lossLatch; «over_latch» = overLatch }
 
@@ -96,6 +105,7 @@ struckAll drop pickup lossRun overRun lossLatch overLatch output =
         channels = replicate 3 (struck lossRun 0 lossLatch false) ++ replicate 3 (struck lossRun overRun lossLatch overLatch);
         age = 72;
         slot = 1;
+        «device_on» = true;
         settings = equalLevels drop pickup;
       };
       refusal = 0;
@@ -112,7 +122,7 @@ abbrev early : Channel → List Channel
 early last = replicate 3 (channel 7 0 true false) ++ (channel 0 2 true true ∷ channel 7 2 false true ∷ last ∷ [])
 
 -- a channel that a frame of code 512 in slot 3 leaves as `struck`: 7 stands in that slot
-abbrev marked : ℕ → ℕ → Bool → Bool → Channel
+abbrev pub marked : ℕ → ℕ → Bool → Bool → Channel
 marked lossRun overRun lossLatch overLatch =
     record {
       samples = pos 100 ∷ pos 0 ∷ pos 0 ∷ pos 7 ∷ replicate 4 (pos 0);
@@ -123,14 +133,14 @@ marked lossRun overRun lossLatch overLatch =
     }
 
 abbrev handed : ℕ → ℕ → ℕ → ℕ → List Channel → Relay
-handed age slot drop pickup channels = record { channels = channels; age = age; slot = slot; settings = equalLevels drop pickup }
+handed age slot drop pickup channels = record { channels = channels; age = age; slot = slot; «device_on» = true; settings = equalLevels drop pickup }
 
 -- such a frame's answer: each amplitude is 400
-abbrev answer400 : Relay → ℕ → FrameAnswer
+abbrev pub answer400 : Relay → ℕ → FrameAnswer
 answer400 r output = record { relay = r; refusal = 0; amplitudes = replicate 6 400; output = output }
 
 -- six channels that are all in other states, and what a frame that is not counted makes of them
-abbrev mixed : List Channel
+abbrev pub mixed : List Channel
 mixed =
     marked 7 0 false false
     ∷ marked 16 0 false false
@@ -139,7 +149,7 @@ mixed =
     ∷ marked 3 2 true true
     ∷ marked 0 4 false false ∷ []
 
-abbrev mixedAfter : List Channel
+abbrev pub mixedAfter : List Channel
 mixedAfter =
     struck 7 0 false false
     ∷ struck 16 0 true false
@@ -164,7 +174,7 @@ alike lossRun overRun lossLatch overLatch =
     replicate 3 (channel lossRun 0 lossLatch false) ++ replicate 3 (channel lossRun overRun lossLatch overLatch)
 
 -- one thing for each loss run and each over run
-abbrev eachRun : {A : Type 0} → (ℕ → ℕ → A) → List (List A)
+abbrev pub eachRun : {A : Type 0} → (ℕ → ℕ → A) → List (List A)
 eachRun f = table 17 (λ lossRun. table 5 (f lossRun))
 
 -- a relay of which no channel and no level is in range
@@ -185,26 +195,27 @@ pub record Examples : Type 0 where
       ≡ replicate 75 0 ++ replicate 12 8 ++ (47 ∷ [])
   -- a fresh relay, at the ends of "1 to 10,700"; refusal 1 with the all-zero relay
   fresh : freshOf (equalLevels 1 10700)
-      ≡ record { relay = record { channels = still; age = 0; slot = 0; settings = equalLevels 1 10700 }; refusal = 0 }
+      ≡ record { relay = record { channels = still; age = 0; slot = 0; «device_on» = true; settings = equalLevels 1 10700 }; refusal = 0 }
   highest-drops : freshOf (equalLevels 10700 1)
-      ≡ record { relay = record { channels = still; age = 0; slot = 0; settings = equalLevels 10700 1 }; refusal = 0 }
+      ≡ record { relay = record { channels = still; age = 0; slot = 0; «device_on» = true; settings = equalLevels 10700 1 }; refusal = 0 }
   -- each level is kept in its place
   nine-levels : freshOf nine ≡ record {
     relay = record {
       channels = still;
       age = 0;
       slot = 0;
+      «device_on» = true;
       settings = record { drop = 1 ∷ 2 ∷ 3 ∷ 4 ∷ 5 ∷ 6 ∷ []; pickup = 7 ∷ 8 ∷ 9 ∷ []; restraint = 10 ∷ 11 ∷ 12 ∷ [] };
     };
     refusal = 0;
   }
   -- whichever level is out of range, and however
   drop-low : freshOf (record { drop = 0 ∷ replicate 5 1; pickup = replicate 3 1; restraint = replicate 3 0 })
-      ≡ record { relay = record { channels = still; age = 0; slot = 0; settings = equalLevels 0 0 }; refusal = 1 }
+      ≡ record { relay = allZero; refusal = 1 }
   drop-high : freshOf (record { drop = 10701 ∷ replicate 5 1; pickup = replicate 3 1; restraint = replicate 3 0 })
-      ≡ record { relay = handed 0 0 0 0 still; refusal = 1 }
+      ≡ record { relay = allZero; refusal = 1 }
   pickup-low : freshOf (record { drop = replicate 6 819; pickup = 3413 ∷ 3413 ∷ 0 ∷ []; restraint = replicate 3 0 })
-      ≡ record { relay = handed 0 0 0 0 still; refusal = 1 }
+      ≡ record { relay = allZero; refusal = 1 }
   -- "a drop level for each channel and a pickup level for each current": each channel has its own
   own-levels : table 6 (levelsOf nine)
       ≡ own 1 0 0 false ∷ own 2 0 0 false ∷ own 3 0 0 false ∷ own 4 7 10 true ∷ own 5 8 11 true ∷ own 6 9 12 true ∷ []
@@ -240,7 +251,7 @@ pub record Examples : Type 0 where
   -- six channels in six states, some enabled (0, 2 and 3) or none for want of bit 6: a frame that is not counted leaves every run, turns on the latch
   -- of each full one, and answers each amplitude
   mixed-not-counted : frameOf (handed 0 3 400 400 mixed) quiet 0x4D ≡ answer400 (handed 1 4 400 400 mixedAfter) 12
-  mixed-device-off : frameOf (handed 0 3 400 400 mixed) quiet 0x3F ≡ answer400 (handed 1 4 400 400 mixedAfter) 0
+  mixed-device-off : frameOf (handed 0 3 400 400 mixed) quiet 0x3F ≡ answer400 (deviceOff (handed 1 4 400 400 mixedAfter)) 0
   -- a counted frame, of which channels 1 and 5 are not enabled, and one of which none is: a full run is gone before step 4
   mixed-counted : frameOf (handed 72 3 401 400 full) quiet 0x5D ≡ answer400
       (handed 72 4 401 400
@@ -286,7 +297,7 @@ pub record Examples : Type 0 where
       ≡ acceptedAnswer (relay 72 0 (channel 0 0 true false ∷ channel 16 0 true false ∷ replicate 4 (channel 0 0 true false))) 2
   -- each enable byte: six latches are on, and the output shows those that are enabled
   each-enable : table 128 (λ enable. frameOf tripped quiet enable .output) ≡ replicate 64 0 ++ table 64 (λ n. n)
-  device-off : frameOf tripped quiet 63 ≡ acceptedAnswer (relay 72 0 (replicate 6 (channel 0 0 true false))) 0
+  device-off : frameOf tripped quiet 63 ≡ acceptedAnswer (deviceOff (relay 72 0 (replicate 6 (channel 0 0 true false)))) 0
   -- a reset clears the channels that it names and nothing else, and age stays 72; masks 0 to 63 are accepted; bits 6 and 7 are refused
   resets : resetOf tripped 5
       ≡ resetAnswer

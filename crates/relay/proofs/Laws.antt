@@ -1,6 +1,6 @@
--- Laws of the relay's definitions that hold with no code: what an accepted or a refused call is, what it makes of channel c, and that a
--- fresh relay is sound and every accepted call leaves it so. Rests on the definitions, and on what a sound relay says of its parts.
-use Prim.Native.Nat.{ℕ, _+_, _≤_, _<_}
+-- Laws of the relay's definitions that hold with no code: what an accepted or a refused call is, what it makes of channel c, that a fresh
+-- relay is sound and every accepted call leaves it so, and settling. Rests on the definitions, and on what a sound relay says of its parts.
+use Prim.Native.Nat.{ℕ, _+_, _≤_, _<_, min}
 use native.Mathlib.Omega.{arith}
 use mathlib.Core.Path.{_≡_, refl, _∙_}
 use mathlib.Core.Bool.{Bool, true, false, _&&_, _||_, not, cond, false≢true}
@@ -8,7 +8,7 @@ use mathlib.Core.List.{List}
 use lib.IntN.{ℤ}
 use lib.Dec.{leb, ltb, eqb}
 use lib.ListN.{getD, getD-replicate}
-use borrow.Author.Tests.{ltb-true, leb-true, le-leb, eqb-true, ne-eqb}
+use borrow.Author.Tests.{ltb-true, ltb-false, leb-true, le-leb, eqb-true, ne-eqb}
 use Rattle.lists.specs.Each.{every}
 use Rattle.phasor.specs.Cordic.{amplitudeOf}
 use Rattle.phasor.specs.Window.{windowSound}
@@ -29,7 +29,8 @@ use Rattle.relay.specs.Settings.{lossFrames, overFrames, settled, loss}
 use Rattle.relay.specs.Channel.{noChannel, freshChannel, clearedOf, windowAfter, runAfter, nextRun, channelAfter}
 use Rattle.relay.proofs.Sound.{Sound, sound-says, says-sound}
 use Rattle.relay.specs.Sound.{overSound, channelSound, channelsSound, soundOf}
-use Rattle.relay.specs.Relay.{channelAt, freshRelay, zeroRelay, freshRefusal, freshOf, counted, ageAfter, slotAfter}
+use Rattle.relay.specs.Relay.{channelAt, unusedRelay, freshRelay, zeroRelay, freshRefusal, freshOf}
+use Rattle.relay.specs.Relay.{foundBy, ageFound, counted, ageAfter, slotAfter}
 use Rattle.relay.specs.Relay.{nextChannel, acceptedFrame, refusedFrame, inputRefusal, frameRefusal, frameOf}
 use Rattle.relay.specs.Relay.{resetChannel, acceptedReset, refusedReset, maskRefusal, resetRefusal, resetOf}
 
@@ -60,6 +61,15 @@ pub fresh-is : (s : Settings) → settingsSound s ≡ true → freshOf s ≡ rec
 unfolding freshOf freshRefusal
 fresh-is s e = rw (and-left (levelsSound s) (restraintsSound (s .restraint)) e, and-right (levelsSound s) (restraintsSound (s .restraint)) e)
 
+-- of every relay: a frame with no refusal is what an accepted one is, and any other hands the relay back as it was given
+pub frame-taken : (r : Relay) (codes : List ℕ) (enable : ℕ) → frameRefusal r codes enable ≡ 0 → frameOf r codes enable ≡ acceptedFrame r codes enable
+unfolding frameOf
+frame-taken r codes enable e = rw e
+
+pub frame-left : (r : Relay) (codes : List ℕ) (enable : ℕ) → ¬ (frameRefusal r codes enable ≡ 0) → frameOf r codes enable .relay ≡ r
+unfolding frameOf refusedFrame
+frame-left r codes enable e = rw (ne-eqb (frameRefusal r codes enable) 0 e)
+
 -- on a sound relay codes, enable byte and mask alone decide
 pub frame-accepted : (r : Relay) (codes : List ℕ) (enable : ℕ) → soundOf r ≡ true → inputRefusal codes enable ≡ 0
     → frameOf r codes enable ≡ acceptedFrame r codes enable
@@ -82,12 +92,12 @@ reset-refused r mask s e = rw (s, ne-eqb (maskRefusal mask) 0 e)
 -- ---- channel c
 
 pub fresh-channel : (s : Settings) (c : ℕ) → c < 6 → channelAt (freshRelay s) c ≡ freshChannel
-unfolding freshRelay
+unfolding unusedRelay
 fresh-channel s c h = getD-replicate 6 c freshChannel noChannel h
 
 -- channel c after an accepted frame, by the relay
 abbrev pub nextOf : Relay → List ℕ → ℕ → ℕ → Channel
-nextOf r codes enable = nextChannel (r .settings) (r .slot) (counted r) codes enable (r .channels)
+nextOf r codes enable = nextChannel (r .settings) (r .slot) (counted r enable) codes enable (r .channels)
 
 pub frame-channel : (r : Relay) (codes : List ℕ) (enable c : ℕ) → c < 6
     → channelAt (acceptedFrame r codes enable .relay) c ≡ nextOf r codes enable c
@@ -148,8 +158,14 @@ cleared-sound current ch s = by current (and-left (windowSound (ch .samples)) _ 
 
 -- a fresh relay with accepted settings is sound
 pub fresh-sound : (s : Settings) → settingsSound s ≡ true → soundOf (freshRelay s) ≡ true
-unfolding soundOf channelsSound channelSound freshRelay freshChannel windowSound every
+unfolding soundOf channelsSound channelSound unusedRelay freshChannel windowSound every
 fresh-sound s e = rw e
+
+found-le : (was on : Bool) (age : ℕ) → age ≤ settled → foundBy was on age ≤ settled
+found-le true true age h = h
+found-le true false age h = h
+found-le false true age h = omega arith
+found-le false false age h = h
 
 age-le : (age : ℕ) → age ≤ settled → ageAfter age ≤ settled
 age-le age h = by (ltb age settled) refl
@@ -175,10 +191,10 @@ frame-sound r codes enable s h = says-sound (acceptedFrame r codes enable .relay
     next was =
         record {
           settings = was .settings;
-          age = age-le (r .age) (was .age);
+          age = age-le (ageFound r enable) (found-le (r .«device_on») (bitOf enable 6) (r .age) (was .age));
           slot = slot-le (r .slot);
           channel = λ c l. rw (frame-channel r codes enable c l)
-              (channel-sound (levelsOf (r .settings) c) (r .slot) (counted r) (enabledIn enable c) (getD codes c 0) (channelAt r c)
+              (channel-sound (levelsOf (r .settings) c) (r .slot) (counted r enable) (enabledIn enable c) (getD codes c 0) (channelAt r c)
               (codes-below codes h c l) (was .channel c l));
         }
 
@@ -199,3 +215,53 @@ reset-sound r mask s = says-sound (acceptedReset r mask .relay) (next (sound-say
           slot = was .slot;
           channel = λ c l. rw (reset-channel r mask c l) (named c (bitOf mask c) (was .channel c l));
         }
+
+-- ---- settling (document 02, Paper 5), for every relay; a frame that is refused leaves it (`frame-left`)
+
+-- "The relay remembers whether bit 6 was on in the latest accepted frame"
+pub remembers : (r : Relay) (codes : List ℕ) (enable : ℕ) → acceptedFrame r codes enable .relay .«device_on» ≡ bitOf enable 6
+unfolding acceptedFrame
+remembers r codes enable = refl
+
+-- "A frame with bit 6 on after one with it off sets age to 0 before anything else": step 2 makes it 1, and all runs stay as they were
+pub rise-age : (r : Relay) (codes : List ℕ) (enable : ℕ) → r .«device_on» ≡ false → bitOf enable 6 ≡ true
+    → acceptedFrame r codes enable .relay .age ≡ 1
+unfolding acceptedFrame
+rise-age r codes enable was on = rw (was, on)
+
+pub rise-runs : (r : Relay) (codes : List ℕ) (enable c : ℕ) → r .«device_on» ≡ false → bitOf enable 6 ≡ true → c < 6
+    → (channelAt (acceptedFrame r codes enable .relay) c .«loss_run» ≡ channelAt r c .«loss_run»)
+    × (channelAt (acceptedFrame r codes enable .relay) c .«over_run» ≡ channelAt r c .«over_run»)
+unfolding nextChannel channelAfter nextRun
+rise-runs r codes enable c was on h = (rw (frame-channel r codes enable c h, was, on), rw (frame-channel r codes enable c h, was, on))
+
+-- any other frame goes on from the age that the relay has
+pub no-rise-age : (r : Relay) (codes : List ℕ) (enable : ℕ) → ¬ ((r .«device_on» ≡ false) × (bitOf enable 6 ≡ true)) → r .age ≤ 72
+    → acceptedFrame r codes enable .relay .age ≡ min 72 (r .age + 1)
+unfolding acceptedFrame
+no-rise-age r codes enable no-rise h = by (r .«device_on») (bitOf enable 6) no-rise
+  where
+    below : (b : Bool) → ltb (r .age) 72 ≡ b → cond b (r .age + 1) (r .age) ≡ min 72 (r .age + 1)
+    below true q = omega (arith, ltb-true (r .age) 72 q)
+    below false q = omega (arith, ltb-false (r .age) 72 q)
+
+    goes-on : ageAfter (r .age) ≡ min 72 (r .age + 1)
+    goes-on = below (ltb (r .age) 72) refl
+
+    by : (was on : Bool) → ¬ ((was ≡ false) × (on ≡ true)) → ageAfter (foundBy was on (r .age)) ≡ min 72 (r .age + 1)
+    by true true n = goes-on
+    by true false n = goes-on
+    by false true n = absurd (n (refl, refl))
+    by false false n = goes-on
+
+-- a reset, accepted or not, leaves the memory and the age
+pub reset-keeps : (r : Relay) (mask : ℕ)
+    → (resetOf r mask .relay .«device_on» ≡ r .«device_on») × (resetOf r mask .relay .age ≡ r .age)
+unfolding resetOf acceptedReset refusedReset
+reset-keeps r mask = by (eqb (resetRefusal r mask) accepted)
+  where
+    by : (b : Bool)
+        → (cond b (acceptedReset r mask) (refusedReset r (resetRefusal r mask)) .relay .«device_on» ≡ r .«device_on»)
+        × (cond b (acceptedReset r mask) (refusedReset r (resetRefusal r mask)) .relay .age ≡ r .age)
+    by true = (refl, refl)
+    by false = (refl, refl)

@@ -17,7 +17,7 @@ use Rattle.phasor.specs.Cordic.{amplitudeOf}
 use Rattle.relay.specs.Settings.{levelsOf, loss, over, unrestrained, unrestrainedBy}
 use Rattle.relay.specs.Relay.{channelAt, freshOf, frameOf, resetOf}
 use Rattle.relay.proofs.Computed.{computed}
-use Rattle.relay.proofs.Examples.{equalLevels, still}
+use Rattle.relay.proofs.Examples.{equalLevels, still, deviceOff, allZero}
 
 -- ---- windows
 
@@ -94,7 +94,7 @@ channelOf window lossRun overRun lossLatch overLatch =
     record { samples = window; «loss_run» = lossRun; «over_run» = overRun; «loss_latch» = lossLatch; «over_latch» = overLatch }
 
 abbrev relayOf : ℕ → ℕ → Settings → List Channel → Relay
-relayOf age slot settings channels = record { channels = channels; age = age; slot = slot; settings = settings }
+relayOf age slot settings channels = record { channels = channels; age = age; slot = slot; «device_on» = true; settings = settings }
 
 abbrev answer : Relay → List ℕ → ℕ → FrameAnswer
 answer r amplitudes output = record { relay = r; refusal = 0; amplitudes = amplitudes; output = output }
@@ -257,7 +257,7 @@ abbrev madeWith : Settings → FreshAnswer
 madeWith s = record { relay = relayOf 0 0 s still; refusal = 0 }
 
 abbrev notMade : ℕ → FreshAnswer
-notMade refusal = record { relay = relayOf 0 0 (equalLevels 0 0) still; refusal = refusal }
+notMade refusal = record { relay = allZero; refusal = refusal }
 
 -- a level out of range in each place, beside a restraint of 101 in each place
 abbrev badDrop : ℕ → ℕ → ℕ → FreshAnswer
@@ -397,7 +397,7 @@ pub record RestraintCalls : Type 0 where
   pub disabled : (enabledFrame (three 37 38 0) 0x57 ≡ enabledLeft (three 37 38 0) (channelOf even 6 4 false true) 16)
       × (enabledFrame (three 38 37 37) 0x57 ≡ enabledLeft (three 38 37 37) (channelOf even 6 0 false false) 0)
   pub device-off : enabledFrame (three 37 38 0) 0x3F ≡ evenAnswer
-      (relayOf 72 5 (evenLevels (three 37 38 0)) (replicate 3 (channelOf pure 0 0 false false) ++ replicate 3 (held even))) 0
+      (deviceOff (relayOf 72 5 (evenLevels (three 37 38 0)) (replicate 3 (channelOf pure 0 0 false false) ++ replicate 3 (held even)))) 0
   -- the same in each slot: 37 restrains, 38 and 0 do not
   pub each-slot : map (λ a. overRuns (a .relay))
       (slotFrame 0 516 ∷ slotFrame 1 530 ∷ slotFrame 2 502 ∷ slotFrame 3 524

@@ -29,17 +29,17 @@ abbrev bothRefused : List ℕ
 bothRefused = 2 ∷ 2 ∷ []
 
 abbrev aging : ℕ → ℕ → Relay
-aging age slot = record { channels = still; age = age; slot = slot; settings = equalLevels 819 3413 }
+aging age slot = record { channels = still; age = age; slot = slot; «device_on» = true; settings = equalLevels 819 3413 }
 
 abbrev aged : ℕ → ℕ → List ℕ
 aged age slot = refusals (aging age slot)
 
 abbrev under : Settings → List ℕ
-under settings = refusals (record { channels = still; age = 72; slot = 0; settings = settings })
+under settings = refusals (record { channels = still; age = 72; slot = 0; «device_on» = true; settings = settings })
 
 -- channel c is as given, and the others have seen nothing
 abbrev holding : Channel → ℕ → List ℕ
-holding ch c = refusals (record { channels = set still c ch; age = 72; slot = 0; settings = equalLevels 819 3413 })
+holding ch c = refusals (record { channels = set still c ch; age = 72; slot = 0; «device_on» = true; settings = equalLevels 819 3413 })
 
 -- the same for each channel: in all six alike, or otherwise in voltages and currents
 abbrev inEach : Channel → List (List ℕ)
@@ -93,11 +93,11 @@ eachRestraint r = table 3 (λ k. withLevel (restrained r k))
 
 -- a settled relay with such a restraint
 abbrev restraining : ℕ → ℕ → Relay
-restraining r k = record { channels = still; age = 72; slot = 7; settings = restrained r k }
+restraining r k = record { channels = still; age = 72; slot = 7; «device_on» = true; settings = restrained r k }
 
 -- one of any age
 abbrev restrainingAt : ℕ → ℕ → Relay
-restrainingAt age r = record { channels = still; age = age; slot = 0; settings = restrained r 2 }
+restrainingAt age r = record { channels = still; age = age; slot = 0; «device_on» = true; settings = restrained r 2 }
 
 abbrev notRun : Relay → FrameAnswer
 notRun r = record { relay = r; refusal = 2; amplitudes = replicate 6 0; output = 0 }

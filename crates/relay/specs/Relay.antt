@@ -1,7 +1,8 @@
 -- The relay's three calls, refusals included (document 01, "Frames, runs, latches, resets", rows 1 to 5 of "Refusals",
--- and 20 of document 02). Rests on one channel's rules and on what a sound relay is.
+-- and 20 of document 02), with the settling of document 02, Paper 5. Rests on one channel's rules and on what a sound
+-- relay is.
 use Prim.Native.Nat.{ℕ, _+_}
-use mathlib.Core.Bool.{Bool, _&&_, _||_, not, cond}
+use mathlib.Core.Bool.{Bool, true, false, _&&_, _||_, not, cond}
 use mathlib.Core.List.{List, [], _∷_}
 use lib.IntN.{ℤ}
 use lib.Dec.{ltb, leb, eqb}
@@ -27,13 +28,17 @@ channelAt r c = getD (r .channels) c noChannel
 
 -- ---- a fresh relay
 
--- "A fresh relay has age 0, slot 0, all runs 0, all latches off."
-unfoldable pub freshRelay : Settings → Relay
-freshRelay s = record { channels = replicate 6 freshChannel; age = 0; slot = 0; settings = s }
+-- a relay that no frame has met, with what it remembers of bit 6
+unfoldable pub unusedRelay : Bool → Settings → Relay
+unusedRelay on s = record { channels = replicate 6 freshChannel; age = 0; slot = 0; «device_on» = on; settings = s }
 
--- what refusals 1 and 20 return
-unfoldable pub zeroRelay : Relay
-zeroRelay = freshRelay zeroSettings
+-- "A fresh relay has age 0, slot 0, all runs 0, all latches off." "a fresh relay remembers on" (Paper 5)
+abbrev pub freshRelay : Settings → Relay
+freshRelay s = unusedRelay true s
+
+-- what refusals 1 and 20 return: "all-zero", so that it remembers off
+abbrev pub zeroRelay : Relay
+zeroRelay = unusedRelay false zeroSettings
 
 -- "20 for r above 100, after 1"
 abbrev pub freshChecks : Settings → List Check
@@ -50,9 +55,17 @@ freshOf s =
 
 -- ---- a frame
 
+-- Paper 5, before the five steps: "A frame with bit 6 on after one with it off sets age to 0 before anything else."
+-- What the frame then finds, from what the relay remembers of bit 6, the frame's own, and the age.
+abbrev pub foundBy : Bool → Bool → ℕ → ℕ
+foundBy was on age = cond (on && not was) 0 age
+
+abbrev pub ageFound : Relay → ℕ → ℕ
+ageFound r enable = foundBy (r .«device_on») (bitOf enable 6) (r .age)
+
 -- a counted frame, a term of document 01, "is one that found age 72"; a sound relay's age is at most 72
-abbrev pub counted : Relay → Bool
-counted r = leb settled (r .age)
+abbrev pub counted : Relay → ℕ → Bool
+counted r enable = leb settled (ageFound r enable)
 
 -- step 2: "if age is below 72, adds 1 to age"
 abbrev pub ageAfter : ℕ → ℕ
@@ -88,15 +101,17 @@ acceptedFrame r codes enable =
     record {
       relay = record {
         -- 1 stores the samples, 2 and 3 count the runs, 4 turns latches on
-        channels = table 6 (nextChannel (r .settings) (r .slot) (counted r) codes enable (r .channels));
-        age = ageAfter (r .age);  -- 2
+        channels = table 6 (nextChannel (r .settings) (r .slot) (counted r enable) codes enable (r .channels));
+        age = ageAfter (ageFound r enable);  -- 2
         slot = slotAfter (r .slot);  -- 5
+        -- "The relay remembers whether bit 6 was on in the latest accepted frame" (Paper 5)
+        «device_on» = bitOf enable 6;
         settings = r .settings;
       };
       refusal = accepted;
       -- 1 finds the six amplitudes, 5 answers them with the output
       amplitudes = table 6 (amplitudeIn (r .slot) codes (r .channels));
-      output = bitsBelow 6 (outputIn (r .settings) (r .slot) (counted r) codes enable (r .channels));
+      output = bitsBelow 6 (outputIn (r .settings) (r .slot) (counted r enable) codes enable (r .channels));
     }
 
 -- what refusals 2, 3 and 4 return: "relay as given, amplitudes and output 0"
@@ -136,6 +151,7 @@ acceptedReset r mask =
         channels = table 6 (resetChannel mask (r .channels));
         age = r .age;
         slot = r .slot;
+        «device_on» = r .«device_on»;
         settings = r .settings;
       };
       refusal = accepted;

@@ -1,8 +1,9 @@
 // The relay of document 01: six channels, each with its window, runs and latches, under nine levels, and a restraint
-// level for each current (document 02, Paper 8). Its entry points are `Relay::fresh`, `Relay::frame` and
-// `Relay::reset`: each takes any arguments, a relay that is not sound too, and promises its whole answer.
+// level for each current (document 02, Paper 8); it settles at the start and when the device is enabled again (Paper
+// 5). Its entry points are `Relay::fresh`, `Relay::frame` and `Relay::reset`: each takes any arguments, a relay that
+// is not sound too, and promises its whole answer.
 ghost use mathlib.Core.Path.{_≡_};
-ghost use Rattle.relay.specs.Relay.{freshRelay, freshOf, frameRefusal, acceptedFrame, refusedFrame, frameOf};
+ghost use Rattle.relay.specs.Relay.{unusedRelay, freshOf, frameRefusal, acceptedFrame, refusedFrame, frameOf};
 ghost use Rattle.relay.specs.Relay.{acceptedReset, resetOf};
 ghost use Rattle.relay.specs.Internal.{frameRefusalBy, resetRefusalBy};
 
@@ -37,11 +38,13 @@ pub struct Settings {
     pub restraint: [u8; 3],
 }
 
+// `device_on` is bit 6 of the latest accepted frame; a fresh relay has it on.
 #[repr(C)]
 pub struct Relay {
     pub channels: [Channel; 6],
     pub age: u8,
     pub slot: u8,
+    pub device_on: bool,
     pub settings: Settings,
 }
 
@@ -85,14 +88,15 @@ fn refused_frame(relay: Relay, refusal: u8) -> FrameAnswer
 }
 
 impl Relay {
-    // A fresh relay with these settings; with zero settings, the all-zero relay.
-    fn fresh_relay(settings: Settings) -> Relay
-        ensures { λ r. ⌜ r ≡ freshRelay settings ⌝ }
+    // A relay that no frame has met: a fresh one remembers on, the all-zero one off.
+    fn unused(on: bool, settings: Settings) -> Relay
+        ensures { λ r. ⌜ r ≡ unusedRelay on settings ⌝ }
     {
         Relay {
             channels: [Channel::fresh(); 6],
             age: 0,
             slot: 0,
+            device_on: on,
             settings: settings,
         }
     }
@@ -109,17 +113,17 @@ impl Relay {
                 restraint: [0; 3],
             };
             return FreshAnswer {
-                relay: Relay::fresh_relay(zeros),
+                relay: Relay::unused(false, zeros),
                 refusal: refusal,
             };
         }
         FreshAnswer {
-            relay: Relay::fresh_relay(settings),
+            relay: Relay::unused(true, settings),
             refusal: refusals::ACCEPTED,
         }
     }
 
-    // The five steps of an accepted frame.
+    // An accepted frame: the age that it finds, and its five steps.
     fn accepted_frame(self, codes: [u16; 6], enable: u8) -> FrameAnswer
         requires { ⌜ frameRefusal self codes enable ≡ 0 ⌝ }
         ensures { λ r. ⌜ r ≡ acceptedFrame self codes enable ⌝ }
@@ -127,7 +131,9 @@ impl Relay {
         let old = self.channels;
         let settings = self.settings;
         let slot = self.slot as usize;
-        let counted = levels::SETTLED <= self.age;
+        let device_on = frames::bits::bit(enable, 6);
+        let age = steps::age_found(self.device_on, device_on, self.age);
+        let counted = levels::SETTLED <= age;
         let windows = steps::windows_after(old, slot, codes);
         let amplitudes = phasor::amplitudes(windows);
         let unrestrained = steps::unrestrained_channels(settings, windows, amplitudes);
@@ -143,8 +149,9 @@ impl Relay {
         let channels = made.channels;
         let mut next = self;
         next.channels = channels;
-        next.age = steps::age_after(self.age);
+        next.age = steps::age_after(age);
         next.slot = steps::slot_after(self.slot);
+        next.device_on = device_on;
         FrameAnswer {
             relay: next,
             refusal: refusals::ACCEPTED,

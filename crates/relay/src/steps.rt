@@ -8,7 +8,7 @@ ghost use Rattle.frames.specs.Codes.{codeLimit, codesInRange};
 ghost use Rattle.phasor.specs.Lanes.{WindowsSound, amplitudesOf};
 ghost use Rattle.relay.specs.Settings.{unrestrainedBy};
 ghost use Rattle.relay.specs.Channel.{freshChannel, clearedOf, runAfter, channelWith};
-ghost use Rattle.relay.specs.Relay.{ageAfter, slotAfter};
+ghost use Rattle.relay.specs.Relay.{foundBy, ageAfter, slotAfter};
 ghost use Rattle.relay.specs.Internal.{storedWindow, windowsOf, channelsAndOutput, resetsOf, unrestrainedIn};
 use crate::Channel;
 use crate::ChannelLevels;
@@ -208,6 +208,13 @@ pub(crate) fn channels_reset(old: [Channel; 6], mask: u8) -> [Channel; 6]
         c += 1;
     }
     channels
+}
+
+// Before the steps: a frame with bit 6 on after one with it off finds age 0 (document 02, Paper 5).
+pub(crate) fn age_found(was: bool, on: bool, age: u8) -> u8
+    ensures { λ r. ⌜ r ≡ foundBy was on age ⌝ }
+{
+    if on & !was { 0 } else { age }
 }
 
 // Step 2: the age grows by 1 up to 72.

@@ -2,7 +2,7 @@
 use Prim.Native.Nat.{ℕ, _<_}
 use Rattle.frames.proofs.Output.{bits-same}
 use Rattle.frames.proofs.Samples.{sample-is-sound}
-use Rattle.frames.specs.Bits.{enabledIn}
+use Rattle.frames.specs.Bits.{bitOf, enabledIn}
 use Rattle.lists.proofs.Each.{getD-table, table-same}
 use Rattle.phasor.proofs.Samples.{window-set}
 use Rattle.phasor.specs.Cordic.{amplitudeOf}
@@ -12,16 +12,17 @@ use Rattle.relay.proofs.Sound.{relay-passed, codes-passed, slot-passed,
 use Rattle.frames.proofs.Ranges.{codes-below}
 use Rattle.relay.specs.Channel.{noChannel, channelWith, channelAfter, latchOn}
 use Rattle.relay.specs.Internal.{storedAt, windowsOf, channelIn, onIn, channelsAndOutput}
-use Rattle.relay.specs.Relay.{counted, ageAfter, slotAfter, windowIn, amplitudeIn, nextChannel, outputIn, acceptedFrame, frameRefusal}
-use Rattle.relay.specs.Settings.{levelsOf}
+use Rattle.relay.specs.Relay.{foundBy, counted, ageAfter, slotAfter, windowIn, amplitudeIn, nextChannel, outputIn, acceptedFrame, frameRefusal}
+use Rattle.relay.specs.Settings.{levelsOf, settled}
 use Rattle.relay.specs.declared.Channel.{Channel}
 use Rattle.relay.specs.declared.ChannelsAndOutput.{ChannelsAndOutput}
 use Rattle.relay.specs.declared.FrameAnswer.{FrameAnswer}
 use Rattle.relay.specs.declared.Relay.{Relay}
 use borrow.Author.Needs.{needs}
 use lib.IntN.{ℤ}
+use lib.Dec.{leb}
 use lib.ListN.{getD}
-use mathlib.Core.Bool.{_&&_}
+use mathlib.Core.Bool.{Bool, _&&_}
 use mathlib.Core.List.{List}
 use mathlib.Core.Path.{_≡_, ap, _∙_}
 use Rattle.relay.proofs.Relay.accepted_frame.Statement.{statement}
@@ -45,31 +46,35 @@ module _ (r : Relay) (codes : List ℕ) (enable : ℕ) (windows : List Window) (
   amplitude-is c h = ap (amplitudeOf 1) (window-is c h)
 
   channel-is : (c : ℕ) → c < 6
-      → channelIn (r .settings) (counted r) enable windows (r .channels) c
-      ≡ nextChannel (r .settings) (r .slot) (counted r) codes enable (r .channels) c
+      → channelIn (r .settings) (counted r enable) enable windows (r .channels) c
+      ≡ nextChannel (r .settings) (r .slot) (counted r enable) codes enable (r .channels) c
   unfolding channelIn nextChannel channelAfter
   channel-is c h =
-      ap (λ (w : List ℤ). channelWith (levelsOf (r .settings) c) (counted r) (enabledIn enable c) w (getD (r .channels) c noChannel)) (window-is c h)
+      ap (λ (w : List ℤ). channelWith (levelsOf (r .settings) c) (counted r enable) (enabledIn enable c) w (getD (r .channels) c noChannel))
+      (window-is c h)
 
   on-is : (c : ℕ) → c < 6
-      → onIn (r .settings) (counted r) enable windows (r .channels) c
-      ≡ outputIn (r .settings) (r .slot) (counted r) codes enable (r .channels) c
+      → onIn (r .settings) (counted r enable) enable windows (r .channels) c
+      ≡ outputIn (r .settings) (r .slot) (counted r enable) codes enable (r .channels) c
   unfolding onIn outputIn
   on-is c h = ap (λ (ch : Channel). latchOn ch && enabledIn enable c) (channel-is c h)
 
-  made : (amplitudes : List ℕ) (age slot : ℕ) (m : ChannelsAndOutput)
-      → m ≡ channelsAndOutput (r .settings) (counted r) enable windows (r .channels)
+  made : (amplitudes : List ℕ) (found age slot : ℕ) (on : Bool) (m : ChannelsAndOutput)
+      → m ≡ channelsAndOutput (r .settings) (leb settled found) enable windows (r .channels)
       → amplitudes ≡ amplitudesOf windows
-      → age ≡ ageAfter (r .age)
+      → on ≡ bitOf enable 6
+      → found ≡ foundBy (r .«device_on») on (r .age)
+      → age ≡ ageAfter found
       → slot ≡ slotAfter (r .slot)
       → _≡_ {A = FrameAnswer} (record {
-        relay = record { channels = m .channels; age = age; slot = slot; settings = r .settings };
+        relay = record { channels = m .channels; age = age; slot = slot; «device_on» = on; settings = r .settings };
         refusal = 0;
         amplitudes = amplitudes;
         output = m .output;
       }) (acceptedFrame r codes enable)
   unfolding acceptedFrame channelsAndOutput
-  made amplitudes age slot m p q a s = rw (p, q, a, s, table-same 6 _ _ amplitude-is, table-same 6 _ _ channel-is, bits-same 6 _ _ on-is)
+  made amplitudes found age slot on m p q o f a s =
+      rw (p, q, a, s, f, o, table-same 6 _ _ amplitude-is, table-same 6 _ _ channel-is, bits-same 6 _ _ on-is)
 
 windows-after-requires : tie.Need-windows-after-requires
 windows-after-requires c κs = search (slot-passed, codes-passed)
@@ -86,5 +91,5 @@ returns c = search made
 pub accepted-frame-spec : {M : Type 1} → statement M
 accepted-frame-spec =
     tie.close
-    (tie.spec (λ c. search needs) windows-after-requires amplitudes-requires unrestrained-channels-requires
-    (λ c κs. search needs) (λ c κs. search needs) (λ c κs. search needs) returns)
+    (tie.spec (λ c. search needs) (λ c κs. search needs) (λ c κs. search needs) windows-after-requires amplitudes-requires
+    unrestrained-channels-requires (λ c κs. search needs) (λ c κs. search needs) (λ c κs. search needs) returns)

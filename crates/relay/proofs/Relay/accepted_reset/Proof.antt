@@ -13,7 +13,7 @@ use Rattle.relay.proofs.Relay.accepted_reset.Tie as tie
 
 made : (r : Relay) (mask : ℕ) (channels : List Channel) → channels ≡ resetsOf mask (r .channels)
     → _≡_ {A = ResetAnswer} (record {
-      relay = record { channels = channels; age = r .age; slot = r .slot; settings = r .settings };
+      relay = record { channels = channels; age = r .age; slot = r .slot; «device_on» = r .«device_on»; settings = r .settings };
       refusal = 0;
     }) (acceptedReset r mask)
 unfolding acceptedReset resetsOf

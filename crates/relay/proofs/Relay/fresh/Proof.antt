@@ -2,7 +2,6 @@
 use Prim.Native.Nat.{ℕ}
 use Rattle.refusals.specs.Refusals.{accepted}
 use Rattle.relay.specs.Relay.{freshRelay, zeroRelay, freshRefusal, freshOf}
-use Rattle.relay.specs.Settings.{zeroSettings}
 use Rattle.relay.specs.declared.FreshAnswer.{FreshAnswer}
 use Rattle.relay.specs.declared.Relay.{Relay}
 use Rattle.relay.specs.declared.Settings.{Settings}
@@ -12,9 +11,9 @@ use mathlib.Core.Path.{_≡_}
 use Rattle.relay.proofs.Relay.fresh.Statement.{statement}
 use Rattle.relay.proofs.Relay.fresh.Tie as tie
 
-refused : (settings : Settings) (n : ℕ) (r : Relay) → n ≡ freshRefusal settings → ¬ (n ≡ 0) → r ≡ freshRelay zeroSettings
+refused : (settings : Settings) (n : ℕ) (r : Relay) → n ≡ freshRefusal settings → ¬ (n ≡ 0) → r ≡ zeroRelay
     → _≡_ {A = FreshAnswer} (record { relay = r; refusal = n }) (freshOf settings)
-unfolding freshOf zeroRelay
+unfolding freshOf
 refused settings n r e h q = rw (q, ← e, ne-eqb n 0 h)
 
 made : (settings : Settings) (n : ℕ) (r : Relay) → n ≡ freshRefusal settings → n ≡ 0 → r ≡ freshRelay settings
