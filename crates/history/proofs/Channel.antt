@@ -6,7 +6,7 @@ use native.Mathlib.Decide.{decLe}
 use native.Mathlib.Omega.{arith}
 use mathlib.Core.Path.{_≡_, refl, sym, ap₂, _∙_, subst}
 use mathlib.Core.Logic.{_↔_}
-use mathlib.Core.Bool.{Bool, true, false, _&&_, cond}
+use mathlib.Core.Bool.{Bool, true, false, _&&_}
 use mathlib.Core.List.{List, [], _∷_}
 use lib.IntN.{ℤ}
 use lib.Dec.{T}
@@ -23,12 +23,10 @@ use Rattle.history.specs.Demand.{Margins}
 use Rattle.history.proofs.Clock.{Clock, freshClock, countedBy, ticked, bit6In, ClockIs, clock-fresh, clock-cleared, clock-sampled}
 use Rattle.history.proofs.Clock.{counted-is, counted-before}
 use Rattle.history.proofs.Settling.{counted-on}
+use Rattle.history.proofs.Tests.{holds}
 use Rattle.history.proofs.Runs.{Streak, FullAt, Full, no-streak, no-full, hit-streak, full-back, latch-frame}
 use Rattle.history.proofs.History.{_▷_, frames-sampled, inputs-cleared, input-append, input-last, resets-sampled, resets-cleared}
 use Rattle.history.proofs.History.{before-append, before-last, before-le, window-append, window-cleared, window-sampled}
-
-T-true : {b : Bool} → b ≡ true → T b
-T-true e = subst T (sym e) tt
 
 module _ (kind : Kind) where
   -- frame n can stand in a full run that meets its level and lies after the last reset: it is counted, it is enabled, its window meets the level,
@@ -115,7 +113,7 @@ module _ (kind : Kind) where
         → Streak (kind .len) (frames es) run (Live es)
         → Streak (kind .len) (suc (frames es)) (runAfter counted feeds (kind .len) run) (Live next)
     run-after run true true c r s =
-        let both = and-yes (i .channelBit && i .bit6) (kind .meets (windowAt next (frames es))) (T-true r) in
+        let both = and-yes (i .channelBit && i .bit6) (kind .meets (windowAt next (frames es))) (holds _ r) in
         hit-streak (kind .len) (frames es) (Live es) (Live next) live-same run s
         (c .0 tt, rw input-last (both .0), both .1, before-last es i ∙ sym (resets-sampled es i))
     run-after run true false c r s =

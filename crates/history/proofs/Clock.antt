@@ -1,6 +1,6 @@
 -- What a relay has beside its channels and settings, its age, its slot and what it remembers of bit 6, after each event of a channel's history: each
 -- is as the history says, and a frame is counted exactly where it finds age 72. Rests on Settling and History.
-use Prim.Native.Nat.{ℕ, suc, _+_, _%_, _≤_, _<_, min}
+use Prim.Native.Nat.{ℕ, suc, _+_, _%_, _<_, min}
 use native.Mathlib.Omega.{arith}
 use mathlib.Core.Path.{_≡_, refl, sym, ap, _∙_, subst}
 use mathlib.Core.Logic.{_↔_}
@@ -15,6 +15,7 @@ use Rattle.relay.specs.Relay.{foundBy, ageAfter, slotAfter}
 use Rattle.history.specs.History.{Input, Event, sampled, cleared, inputs, frames, inputAt, noInput, Counted}
 use Rattle.history.specs.Settling.{latestBit, sinceRise}
 use Rattle.history.proofs.History.{_▷_, frames-sampled, inputs-cleared, input-append, input-last}
+use Rattle.history.proofs.Tests.{holds, is-true}
 use Rattle.history.proofs.Settling.{counted-same, latest-same, since-same, ageAt, found-counted, counted-found, age-step}
 
 pub record Clock : Type 0 where
@@ -84,11 +85,8 @@ module _ (es : List Event) (i : Input) (t : Clock) (v : ClockIs es t) where
       by p q r = rw (p, q, r)
 
   pub counted-is : T (countedBy t (i .bit6)) ↔ Counted next (frames es)
-  counted-is = rw found (λ h. found-counted (bit6In next) (frames es) (T-is _ h), λ c. subst T (sym (counted-found (bit6In next) (frames es) c)) tt)
-    where
-      T-is : (b : Bool) → T b → b ≡ true
-      T-is true h = refl
-      T-is false h = absurd h
+  counted-is =
+      rw found (λ h. found-counted (bit6In next) (frames es) (is-true _ h), λ c. holds _ (counted-found (bit6In next) (frames es) c))
 
   pub clock-sampled : ClockIs next (ticked t (i .bit6))
   clock-sampled =

@@ -27,6 +27,7 @@ use Rattle.history.specs.History.{windowAt, Counted, Enabled, FullRun}
 use Rattle.history.specs.Demand.{harmonicTest, SurelyBelowDrop, PossiblyBelowDrop, SurelyOverPickup, PossiblyOverPickup}
 use Rattle.history.specs.Demand.{SurelyOver, PossiblyOver}
 use Rattle.history.specs.Demand.{Margins, levels, lossOf, overOf, LossMargins, OverMargins, relayAfter, lossAfter, overAfter, AcceptedSettings}
+use Rattle.history.specs.WrongRelays.{overPickup, overByThird}
 use Rattle.history.proofs.Accepted.{range-says, restraints-say}
 use Rattle.history.proofs.Computed.{computed}
 use Rattle.history.proofs.Settling.{always-on, found-counted}
@@ -180,6 +181,9 @@ pub record HistoryCalls : Type 0 where
   pub tested-ends : table 6 (λ c. overOf (restrained (0 ∷ 1 ∷ 100 ∷ [])) c .meets window100) ≡ replicate 3 false ++ (true ∷ false ∷ true ∷ [])
   pub loss-untested : table 6 (λ c. lossOf (equalLevels 101 1) c .meets window100) ≡ replicate 6 true
   pub test-alone : (harmonicTest 37 window100 ≡ false) × (harmonicTest 37 window173 ≡ true) × (harmonicTest 0 window100 ≡ true)
+  -- the tests of wrong relays: m ≥ pickup alone at m = 400, and the third harmonic, which is 400 too and restrains under 15
+  pub over-alone : table 3 (λ k. overPickup k nine window400) ≡ true ∷ true ∷ false ∷ []
+  pub by-third : (overByThird 0 (restrained (replicate 3 15)) window400 ≡ false) × (overByThird 0 (restrained (replicate 3 0)) window400 ≡ true)
   -- the test is asked beside each margin
   pub tested-margins : ¬ SurelyOver 1 37 window100 × ¬ PossiblyOver 1 37 window100
   -- the margins of 2, at Z = 400: "Z ≥ pickup + 2", "Z ≥ pickup − 2"; "Z < drop − 2", "Z < drop + 2"
@@ -261,6 +265,8 @@ calls =
       tested-ends = refl;
       loss-untested = refl;
       test-alone = (refl, refl, refl);
+      over-alone = refl;
+      by-third = (refl, refl);
       tested-margins = (λ s. s .1, λ s. s .1);
       over-margins = (exact .least-400, exact .below-401, exact .least-400, exact .below-401);
       loss-margins = (exact .below-401, λ f. f (exact .least-400), exact .below-401, λ f. f (exact .least-400));

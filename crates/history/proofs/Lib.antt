@@ -12,6 +12,7 @@ pub mod SettlingCalls
 pub mod History
 pub mod HistoryCalls
 pub mod Laws
+pub mod Tests
 pub mod Theorem
 pub mod Unique
 pub mod Unsettled

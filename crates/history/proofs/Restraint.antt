@@ -3,7 +3,7 @@
 -- itself; what ours does on them is computed here. Rests on Unique.
 use Prim.Native.Nat.{ℕ, zero, suc, _+_, _-_, _%_, _≤_, _<_}
 use native.Mathlib.Omega.{arith}
-use mathlib.Core.Path.{_≡_, refl, sym, ap, _∙_, subst}
+use mathlib.Core.Path.{_≡_, refl, sym, _∙_, subst}
 use mathlib.Core.Bool.{Bool, true, false, _&&_, _||_, not, false≢true}
 use mathlib.Core.List.{List, [], _∷_, _++_}
 use lib.IntN.{ℤ}
@@ -11,8 +11,8 @@ use lib.Dec.{T, eqb}
 use lib.ListN.{getD, set, replicate}
 use borrow.Author.Tests.{eqb-true, ne-eqb, not-true}
 use mir.Facts.{and-yes}
-use Rattle.lists.specs.Each.{every, table}
-use Rattle.lists.proofs.Each.{every-at, and-left, and-right, getD-table}
+use Rattle.lists.specs.Each.{every}
+use Rattle.lists.proofs.Each.{every-at, and-left, and-right}
 use Rattle.relay.specs.declared.Settings.{Settings}
 use Rattle.history.specs.Calls.{Call, frame, acceptedFrames, Implementation, theRelay}
 use Rattle.history.specs.History.{Event, channelHistory, frames, inputAt, resets, resetsBefore, windowAt, InEach, FullRun, LatchOn}
@@ -23,6 +23,7 @@ use Rattle.history.proofs.Settling.{always-on}
 use Rattle.history.proofs.Clock.{bit6In}
 use Rattle.history.proofs.HistoryCalls.{still, restrained, in-range}
 use Rattle.history.proofs.Relay.{frames-same}
+use Rattle.history.proofs.Tests.{holds}
 use Rattle.history.proofs.Unique.{same-relay}
 
 -- ---- cycles of codes
@@ -228,9 +229,6 @@ accepted-but (suc (suc (suc l))) h = absurd (omega arith)
 other : (a b : Bool) → a || b ≡ true → a ≡ false → b ≡ true
 other true b e f = absurd (false≢true (sym f))
 other false b e f = e
-
-holds : (b : Bool) → b ≡ true → T b
-holds b e = subst T (sym e) tt
 
 fails : (b : Bool) → not b ≡ true → ¬ T b
 fails true e t = false≢true e

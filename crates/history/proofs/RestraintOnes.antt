@@ -9,7 +9,7 @@ use mathlib.Core.Bool.{Bool, true, false, _&&_, _||_, not, cond, false≢true}
 use mathlib.Core.List.{List, [], _∷_, _++_, append-nil, append-assoc}
 use mathlib.Core.Logic.{_↔_}
 use lib.IntN.{ℤ}
-use lib.Dec.{T, ltb, leb, eqb, lit<, le→leb}
+use lib.Dec.{T, leb, eqb, lit<, le→leb}
 use lib.ListN.{getD, set, replicate}
 use borrow.Author.Tests.{ne-eqb, le-leb}
 use mir.Facts.{yes-and}
@@ -29,7 +29,7 @@ use Rattle.relay.specs.Relay.{channelAt, unusedRelay, freshRelay, freshOf, ageF
 use Rattle.relay.specs.Relay.{resetChannel, acceptedReset}
 use Rattle.relay.proofs.Laws.{fresh-is, fresh-channel, reset-channel}
 use Rattle.history.specs.Calls.{Codes, Call, frame, reset, frameRefusedBy, resetRefusedBy, refusalOf, Implementation, handedBack, after}
-use Rattle.history.specs.History.{Input, Event, sampled, cleared, channelHistory, frames, resets, resetsBefore, windowOf, windowAt}
+use Rattle.history.specs.History.{Input, Event, sampled, cleared, channelHistory, frames, windowOf, windowAt}
 use Rattle.history.specs.History.{Counted, InEach, InRun, LatchOn}
 use Rattle.history.specs.Demand.{harmonicTest, levels, lossOf, overOf, relayAfter, lossAfter, overAfter, AcceptedSettings}
 use Rattle.history.specs.WrongRelays.{TripsBy, overPickup, overBy, overAtMost, overByThird, KeepsRun, RestrainsLoss, Wrong}
@@ -41,6 +41,7 @@ use Rattle.history.proofs.Clock.{Clock, clockOf, freshClock, countedBy,
 use Rattle.history.proofs.Channel.{Live, live-same, ChannelIs, channelBy, loss-rule, over-rule}
 use Rattle.history.proofs.Channel.{channel-fresh, channel-cleared, channel-sampled}
 use Rattle.history.proofs.Relay.{history-frame, history-reset, history-refused}
+use Rattle.history.proofs.Tests.{is-true}
 
 -- ---- ours, with what an accepted frame makes of a channel changed
 
@@ -221,10 +222,6 @@ keeps settings c slot counted enabled code ch =
       «over_latch» = made .«over_latch»;
     }
 
-T-is : (b : Bool) → T b → b ≡ true
-T-is true t = refl
-T-is false t = absurd t
-
 -- a window that feeds is not held back
 apart : (x a t : Bool) → x && (a && t) ≡ true → x && (a && not t) ≡ false
 apart true true true e = refl
@@ -300,13 +297,13 @@ module _ (settings : Settings) (c : ℕ) where
     ran run = cond (isCounted && (enabled && heldBack settings c w)) run (runAfter isCounted (enabled && F .meets w) 4 run)
 
     is-counted : (kind : Kind) → Live kind next (frames es) → isCounted ≡ true
-    is-counted kind l = T-is isCounted (e .1 (l .0))
+    is-counted kind l = is-true isCounted (e .1 (l .0))
 
     is-enabled : (kind : Kind) → Live kind next (frames es) → enabled ≡ true
-    is-enabled kind l = T-is enabled (rw input-last at (l .1))
+    is-enabled kind l = is-true enabled (rw input-last at (l .1))
 
     is-met : (kind : Kind) → Live kind next (frames es) → kind .meets w ≡ true
-    is-met kind l = T-is (kind .meets w) (subst (λ (v : List ℤ). T (kind .meets v)) (sym q) (l .2))
+    is-met kind l = is-true (kind .meets w) (subst (λ (v : List ℤ). T (kind .meets v)) (sym q) (l .2))
 
     grows : (run : ℕ) → Live F next (frames es) → runAfter isCounted (enabled && F .meets w) 4 run ≡ min 4 (suc run)
     grows run l = rw (is-counted F l, is-enabled F l, is-met F l)

@@ -6,7 +6,7 @@ use native.Mathlib.Decide.{decLt}
 use native.Mathlib.Omega.{arith}
 use native.Mathlib.Nat.{le-refl}
 use mathlib.Core.Path.{_≡_, refl, sym, ap, ap₂, _∙_, subst}
-use mathlib.Core.Bool.{Bool, true, false, _&&_, not, cond}
+use mathlib.Core.Bool.{Bool, true, false, cond}
 use mathlib.Core.List.{List, [], _∷_, _++_}
 use lib.Dec.{T}
 use lib.ListN.{getD}
@@ -14,7 +14,7 @@ use Rattle.frames.specs.Bits.{bitOf}
 use Rattle.relay.specs.declared.Settings.{Settings}
 use Rattle.relay.specs.declared.Relay.{Relay}
 use Rattle.relay.specs.declared.FrameAnswer.{FrameAnswer}
-use Rattle.history.specs.Calls.{Codes, Call, frame, reset, refusalOf, acceptedFrames, deviceBits, deviceBit, Implementation}
+use Rattle.history.specs.Calls.{Codes, Call, frame, reset, refusalOf, acceptedFrames, deviceBit, Implementation}
 use Rattle.history.specs.History.{Event, frames, FullRun}
 use Rattle.history.specs.Settling.{riseIn, latestBit, sinceRise}
 use Rattle.history.specs.Demand.{relayAfter, RelayIs, AcceptedSettings, Demanded}

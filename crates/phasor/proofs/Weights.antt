@@ -1,19 +1,19 @@
 -- The slots of a sum of sample times weight: each sum over a sound window is small, so that one slot more fits in 32 bits, and one slot more is one
 -- term more. What the loops of `fundamental` and `sums` share, for any order. Rests on Samples.
 use Prim.Native.Nat.{ℕ, zero, suc, _+_, _*_, _%_, _<_, _≤_, _^_}
-use native.Mathlib.Nat.{mul-le-mul, le-trans}
+use native.Mathlib.Nat.{mul-le-mul}
 use native.Mathlib.Omega.{arith}
 use native.Mathlib.Numerals.{add-one}
 use mathlib.Core.Path.{_≡_, refl, ap, _∙_, sym}
 use mathlib.Core.Bool.{true}
 use mathlib.Core.List.{List}
-use lib.Dec.{T, lit<, lit≤}
+use lib.Dec.{lit≤}
 use lib.ListN.{getD}
-use lib.IntN.{ℤ, pos, natAbs, _+ℤ_, _*ℤ_}
+use lib.IntN.{ℤ, pos, natAbs, _*ℤ_}
 use lib.Signed.{mag}
 use mir.Syntax.{w16}
 use mir.Val.{ofZ, toZ}
-use Rattle.integers.proofs.Holds.{small, small-at}
+use Rattle.integers.proofs.Holds.{small-at}
 use Rattle.integers.proofs.Size.{abs-add, abs-mul}
 use Rattle.phasor.specs.declared.Point.{Point}
 use Rattle.phasor.specs.Window.{sampleAt, windowSound}

@@ -17,7 +17,7 @@ use Rattle.phasor.specs.Cordic.{amplitudeOf}
 use Rattle.relay.specs.Settings.{levelsOf, loss, over, unrestrained, unrestrainedBy}
 use Rattle.relay.specs.Relay.{channelAt, freshOf, frameOf, resetOf}
 use Rattle.relay.proofs.Computed.{computed}
-use Rattle.relay.proofs.Examples.{equalLevels, still, deviceOff, allZero}
+use Rattle.relay.proofs.Examples.{still, deviceOff, allZero}
 
 -- ---- windows
 

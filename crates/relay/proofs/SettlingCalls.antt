@@ -5,7 +5,7 @@ use Prim.Native.Nat.{ℕ, _+_, _%_}
 use mathlib.Core.Path.{_≡_, refl}
 use mathlib.Core.Bool.{Bool, true, false, cond}
 use mathlib.Core.List.{List, [], _∷_, _++_, map}
-use lib.IntN.{ℤ, pos, negℤ}
+use lib.IntN.{pos, negℤ}
 use lib.Dec.{eqb}
 use lib.ListN.{getD, set, replicate}
 use Rattle.lists.specs.Each.{table}
@@ -19,6 +19,7 @@ use Rattle.relay.specs.Relay.{freshOf, frameOf, resetOf}
 use Rattle.relay.proofs.Computed.{computed}
 use Rattle.relay.proofs.Examples.{quiet, equalLevels, channel, still, allZero, struck, marked, mixed, mixedAfter, eachRun}
 use Rattle.relay.proofs.Examples.{refusedAnswer, resetAnswer, answer400}
+use Rattle.relay.proofs.SoundCalls.{refusals}
 
 -- ---- one call on a relay that is handed in
 
@@ -95,10 +96,6 @@ badCodes = replicate 5 512 ++ (1024 ∷ [])
 
 abbrev badEnables : List ℕ
 badEnables = 0x80 ∷ 0xBF ∷ 0xC0 ∷ 0xFF ∷ []
-
--- the refusals that a frame and a reset on a relay answer
-abbrev refusals : Relay → List ℕ
-refusals r = frameOf r quiet 127 .refusal ∷ resetOf r 63 .refusal ∷ []
 
 -- what each mask answers where there is nothing to clear
 abbrev eachMask : Relay → List ResetAnswer

@@ -19,7 +19,7 @@ use Rattle.relay.proofs.Examples.{quiet, equalLevels, channel, still}
 
 -- ---- the refusals that two calls on a relay answer, a frame and a reset
 
-abbrev refusals : Relay → List ℕ
+abbrev pub refusals : Relay → List ℕ
 refusals r = frameOf r quiet 127 .refusal ∷ resetOf r 63 .refusal ∷ []
 
 abbrev bothAccepted : List ℕ

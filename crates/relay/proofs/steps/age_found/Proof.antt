@@ -1,5 +1,4 @@
 -- `age_found` meets its contract, by its test.
-use borrow.Author.Needs.{needs}
 use Rattle.relay.proofs.steps.age_found.Statement.{statement}
 use Rattle.relay.proofs.steps.age_found.Tie as tie
 
