@@ -115,14 +115,18 @@ def exact(w):
 
 
 def channel(calls, pickup, drop, r=0):
-    """One current channel by document 01 and Papers 5 and 8. A call is (sample, its bit), with bit 6 on, (sample, its bit, bit 6) or 'reset'.
-    For each frame: m, over latch, loss latch, output bit, and the whole state that the next call finds."""
+    """One current channel by document 01 and Papers 5, 6 and 8. A call is (sample, its bit), with bit 6 on, (sample, its bit, bit 6), 'reset' or
+    new levels ('levels', pickup, drop, r). For each frame: m, over latch, loss latch, output bit, and the whole state that the next call finds."""
     w, age, slot, over, loss, lo, ll, out = [0] * 8, 0, 0, 0, 0, False, False, []
     was = True
     for c in calls:
         if c == 'reset':
             over = loss = 0
             lo = ll = False
+            continue
+        if c[0] == 'levels':
+            over, loss = over if (pickup, r) == (c[1], c[3]) else 0, loss if drop == c[2] else 0
+            pickup, drop, r = c[1:]
             continue
         s, device = c[0], c[2] if len(c) > 2 else True
         on = c[1] and device
@@ -742,6 +746,22 @@ def switches():
              for i, samples, drop in ((1, wave(600), 1), (2, [0] * 600, 819))]
     say('With bit 6 off for one frame in every %d or fewer, over never latches, and in every %d or fewer loss does not' % tuple(blind))
     say('over is back in the %dth frame, loss in the %dth' % back.pop())
+    # new levels in front of frame `at`, met before and after, with one frame missing to a full run; and new ones after every p frames
+    renewed, often = set(), lambda p, samples, drop: [c for n, s in enumerate(samples) for c in (
+        [('levels', 1000 + n, drop + n, 0)] if n % p == 0 else []) + [(s, True)]]
+    for at in range(212, 220):
+        calls = lambda samples, run, drop: [(s, n > at - run) for n, s in enumerate(samples[:at])] + [('levels', 3412, drop + 1, 0)] + enabled(samples[at:])
+        over, dead = channel(calls(wave(at + 40), OVER, 1), 3413, 1), channel(calls([0] * (at + 40), LOSS, 819), 3413, 819)
+        assert (over[at - 1][4][4], dead[at - 1][4][5]) == (OVER - 1, LOSS - 1)
+        renewed.add((next(k - at + 1 for k, r in enumerate(over) if k >= at and r[1]), next(k - at + 1 for k, r in enumerate(dead) if k >= at and r[2])))
+    assert len(renewed) == 1
+    runs = renewed.pop()
+    say('a fault in progress waits for a whole run again, over %d frames (%s ms), loss %d (%s ms), where the new level is met'
+        % (runs[0], num(runs[0] / 0.48), runs[1], num(runs[1] / 0.48)))
+    kept = [max(p for p in range(1, 40) if not any(r[i] for r in channel(often(p, samples, drop), 3413, drop)))
+            for i, samples, drop in ((1, wave(400), 1), (2, [0] * 400, 819))]
+    say('With a level of its own moved after every %d frames or fewer over never latches, after every %d or fewer loss does not' % tuple(kept))
+    cite('New levels (Paper 6) take effect with the next frame')
     say('A refused frame (any code above 1023, enable bit 7) is lost to all six channels')
     # after the loss slot k gets what belonged to slot k + 1
     ms = [m / 64 for w in steady(400) for first in range(8) for m in readings([w[(first + 1 + j) % 8] for j in range(8)], first, w)]

@@ -1,6 +1,7 @@
-/* Uses the archive as a firmware team would: a relay is made, fed and reset, and settles again after the device switch;
- * a harmonic is measured and restrains; a recording is written, read back, searched and reported. The values are
- * document 01's bench figures; each refusal occurs, with all that it answers. It says `ok`, or what failed. */
+/* Uses the archive as a firmware team would: a relay is made, fed and reset, settles again after the device switch, and
+ * takes new levels; a harmonic is measured and restrains; a recording is written, read back, searched and reported. The
+ * values are document 01's bench figures; each refusal occurs, with all that it answers. It says `ok`, or what
+ * failed. */
 #include "export.h"
 
 #include <stdio.h>
@@ -9,13 +10,16 @@
 _Static_assert(sizeof(bool) == 1 && sizeof(p6k_channel) == 20, "layout");
 _Static_assert(offsetof(p6k_channel, loss_run) == 16 && offsetof(p6k_channel, over_run) == 17, "layout");
 _Static_assert(offsetof(p6k_channel, loss_latch) == 18 && offsetof(p6k_channel, over_latch) == 19, "layout");
-_Static_assert(sizeof(p6k_settings) == 22 && offsetof(p6k_settings, pickup) == 12, "layout");
-_Static_assert(offsetof(p6k_settings, restraint) == 18 && sizeof(p6k_codes) == 12, "layout");
+_Static_assert(sizeof(p6k_levels) == 22 && offsetof(p6k_levels, drop) == 0, "layout");
+_Static_assert(offsetof(p6k_levels, pickup) == 12 && offsetof(p6k_levels, restraint) == 18, "layout");
+_Static_assert(sizeof(p6k_settings) == 22 && offsetof(p6k_settings, levels) == 0, "layout");
+_Static_assert(sizeof(p6k_codes) == 12, "layout");
 _Static_assert(sizeof(p6k_relay) == 146 && offsetof(p6k_relay, age) == 120, "layout");
 _Static_assert(offsetof(p6k_relay, slot) == 121 && offsetof(p6k_relay, device_on) == 122, "layout");
 _Static_assert(offsetof(p6k_relay, settings) == 124, "layout");
 _Static_assert(sizeof(p6k_fresh_answer) == 148 && offsetof(p6k_fresh_answer, refusal) == 146, "layout");
 _Static_assert(sizeof(p6k_reset_answer) == 148 && offsetof(p6k_reset_answer, refusal) == 146, "layout");
+_Static_assert(sizeof(p6k_change_answer) == 148 && offsetof(p6k_change_answer, refusal) == 146, "layout");
 _Static_assert(sizeof(p6k_frame_answer) == 162 && offsetof(p6k_frame_answer, refusal) == 146, "layout");
 _Static_assert(offsetof(p6k_frame_answer, amplitudes) == 148 && offsetof(p6k_frame_answer, output) == 160, "layout");
 _Static_assert(sizeof(p6k_samples) == 16 && sizeof(p6k_estimate_answer) == 4, "layout");
@@ -50,11 +54,11 @@ static p6k_codes codes_at(unsigned frame)
 /* Without restraint. */
 static p6k_settings settings_of(uint16_t drop, uint16_t pickup)
 {
-    p6k_settings settings = {.restraint = {0, 0, 0}};
+    p6k_settings settings = {.levels = {.restraint = {0, 0, 0}}};
     for (int c = 0; c < 6; c++)
-        settings.drop[c] = drop;
+        settings.levels.drop[c] = drop;
     for (int c = 0; c < 3; c++)
-        settings.pickup[c] = pickup;
+        settings.levels.pickup[c] = pickup;
     return settings;
 }
 
@@ -62,15 +66,16 @@ static p6k_settings settings_of(uint16_t drop, uint16_t pickup)
 static p6k_settings restrained(uint16_t drop, uint16_t pickup, uint8_t restraint)
 {
     p6k_settings settings = settings_of(drop, pickup);
-    settings.restraint[0] = restraint;
+    settings.levels.restraint[0] = restraint;
     return settings;
 }
 
 /* Relays are the same in all but padding: the byte before the settings and the last one. */
 static bool same(p6k_relay a, p6k_relay b)
 {
+    const p6k_levels *l = &a.settings.levels, *m = &b.settings.levels;
     return memcmp(&a, &b, offsetof(p6k_relay, device_on) + sizeof a.device_on) == 0 &&
-           memcmp(&a.settings, &b.settings, offsetof(p6k_settings, restraint) + sizeof a.settings.restraint) == 0;
+           memcmp(l, m, offsetof(p6k_levels, restraint) + sizeof l->restraint) == 0;
 }
 
 /* The first of 100 frames of a wave after which channel c shows in the output, 100 if none does. */
@@ -199,6 +204,107 @@ static int settling(void)
     return 0;
 }
 
+/* The first frame from `first` on after which channel c shows in the output, 200 if none before that does. */
+static unsigned shows(p6k_relay relay, unsigned first, int c)
+{
+    for (unsigned n = first; n < 200; n++) {
+        p6k_frame_answer answer = p6k_frame(relay, codes_at(n), 0x7F);
+        if (answer.output >> c & 1)
+            return n;
+        relay = answer.relay;
+    }
+    return 200;
+}
+
+/* Refused: the relay as given. */
+static bool refused_change(p6k_relay relay, p6k_levels levels, enum p6k_refusal refusal)
+{
+    p6k_change_answer answer = p6k_change(relay, levels);
+    return answer.refusal == refusal && same(answer.relay, relay);
+}
+
+/* The wave just reaches the pickups, the still channels are just below the drops. Frames 72 to 74 are counted: channel
+ * 3 has an over run of 3 and trips with frame 75; the others have loss runs of 3 and trip with frame 87. */
+static int changes(void)
+{
+    const p6k_levels made = settings_of(1, 1603).levels;
+    p6k_relay fresh = p6k_fresh(settings_of(1, 1603)).relay;
+    p6k_relay relay = after(fresh, 0, 74, 0x7F);
+    CHECK(relay.channels[3].over_run == 3 && relay.channels[3].loss_run == 0 && relay.channels[0].loss_run == 3);
+    CHECK(shows(relay, 75, 3) == 75 && shows(relay, 75, 0) == 87);
+
+    /* The levels in force change nothing. */
+    p6k_change_answer answer = p6k_change(relay, made);
+    CHECK(answer.refusal == P6K_ACCEPTED && same(answer.relay, relay));
+
+    /* The summer pickup: the over run is gone and does not come again; loss runs, age, slot and memory stay. */
+    p6k_levels levels = made;
+    levels.pickup[0] = 1604;
+    answer = p6k_change(relay, levels);
+    p6k_relay expected = relay;
+    expected.settings.levels = levels;
+    expected.channels[3].over_run = 0;
+    CHECK(answer.refusal == P6K_ACCEPTED && same(answer.relay, expected));
+    CHECK(shows(answer.relay, 75, 3) == 200 && shows(answer.relay, 75, 0) == 87);
+    /* Back before another frame: the run starts anew, and frames 75 to 78 make a full one. */
+    answer = p6k_change(answer.relay, made);
+    expected.settings.levels = made;
+    CHECK(answer.refusal == P6K_ACCEPTED && same(answer.relay, expected) && shows(answer.relay, 75, 3) == 78);
+
+    /* Restraint is part of the over run's own level, each current's of its own run. */
+    levels = made;
+    levels.restraint[0] = 100;
+    answer = p6k_change(relay, levels);
+    CHECK(answer.relay.channels[3].over_run == 0 && shows(answer.relay, 75, 3) == 78);
+    levels.restraint[0] = 0;
+    levels.restraint[1] = 100;
+    levels.pickup[2] = 10700;
+    answer = p6k_change(relay, levels);
+    CHECK(answer.relay.channels[3].over_run == 3 && shows(answer.relay, 75, 3) == 75);
+
+    /* A drop is its channel's loss run's alone: channel 0 needs frames 75 to 90, the others have their runs. */
+    levels = made;
+    levels.drop[0] = 2;
+    answer = p6k_change(relay, levels);
+    CHECK(answer.relay.channels[0].loss_run == 0 && answer.relay.channels[1].loss_run == 3);
+    CHECK(answer.relay.channels[3].over_run == 3 && shows(answer.relay, 75, 3) == 75);
+    CHECK(shows(answer.relay, 75, 0) == 90 && shows(answer.relay, 75, 1) == 87);
+
+    /* A latch stays and shows, though the new level would not have tripped it. A reset keeps the levels. */
+    p6k_relay tripped = after(relay, 75, 75, 0x7F);
+    levels = made;
+    levels.pickup[0] = 10700;
+    answer = p6k_change(tripped, levels);
+    CHECK(answer.relay.channels[3].over_latch && answer.relay.channels[3].over_run == 0);
+    CHECK(p6k_frame(answer.relay, codes_at(76), 0x7F).output == 0x08);
+    p6k_reset_answer reset = p6k_reset(answer.relay, 0x08);
+    CHECK(reset.relay.settings.levels.pickup[0] == 10700 && shows(reset.relay, 76, 3) == 200);
+
+    /* Age, slot and remembered bit 6 of a relay that has not settled. */
+    relay = after(after(fresh, 0, 9, 0x7F), 10, 10, 0x3F);
+    answer = p6k_change(relay, levels);
+    expected = relay;
+    expected.settings.levels = levels;
+    CHECK(same(answer.relay, expected) && answer.relay.age == 11 && answer.relay.slot == 3);
+    CHECK(!answer.relay.device_on && after(answer.relay, 11, 11, 0x7F).age == 1);
+
+    /* Refused by 20, then also by 1, then also by 2; a wrong drop; the all-zero relay. */
+    levels.restraint[2] = 101;
+    CHECK(refused_change(tripped, levels, P6K_BAD_RESTRAINT));
+    levels.pickup[1] = 0;
+    CHECK(refused_change(tripped, levels, P6K_BAD_SETTING));
+    relay = tripped;
+    relay.slot = 8;
+    CHECK(refused_change(relay, levels, P6K_UNSOUND_RELAY) && refused_change(relay, made, P6K_UNSOUND_RELAY));
+    levels = made;
+    levels.drop[5] = 10701;
+    CHECK(refused_change(tripped, levels, P6K_BAD_SETTING));
+    p6k_relay zero;
+    memset(&zero, 0, sizeof zero);
+    CHECK(refused_change(zero, made, P6K_UNSOUND_RELAY));
+    return 0;
+}
+
 static bool estimated(const int16_t samples[8], uint8_t order, enum p6k_refusal refusal, unsigned amplitude)
 {
     p6k_samples window;
@@ -228,7 +334,7 @@ static int harmonics(void)
     CHECK(refused.refusal == P6K_BAD_RESTRAINT && same(refused.relay, zero));
     CHECK(p6k_fresh(restrained(1, 10701, 101)).refusal == P6K_BAD_SETTING);
     p6k_relay relay = p6k_fresh(restrained(1, 1603, 100)).relay;
-    relay.settings.restraint[2] = 101;
+    relay.settings.levels.restraint[2] = 101;
     p6k_frame_answer answer = p6k_frame(relay, codes_at(0), 0x7F);
     CHECK(answer.refusal == P6K_UNSOUND_RELAY && same(answer.relay, relay));
     CHECK(p6k_reset(relay, 0).refusal == P6K_UNSOUND_RELAY);
@@ -311,7 +417,7 @@ static int reports(void)
 
 int main(void)
 {
-    if (relays() || settling() || harmonics() || captures() || reports())
+    if (relays() || settling() || changes() || harmonics() || captures() || reports())
         return 1;
     puts("c/calls.c: ok");
     return 0;

@@ -12,7 +12,7 @@
  *  - the program is compiled for x86-64 with the System V calling convention, as the archive is.
  * The functions keep nothing between calls, allocate nothing and may be called from several threads at once. Of the C
  * library they need memcpy alone. What an answer's padding holds is not promised: p6k_relay has a byte of it before its
- * settings, and p6k_settings ends in one, so relays are compared field by field.
+ * settings, and p6k_levels ends in one, so relays are compared field by field.
  *
  * This file is written by hand. c/calls.c checks sizes, places of fields and the numbers, c/stack.c the stack, and
  * the tests each function's answers. */
@@ -58,6 +58,7 @@ enum p6k_refusal {
 #define P6K_FRESH_STACK 512
 #define P6K_FRAME_STACK 1536
 #define P6K_RESET_STACK 1024
+#define P6K_CHANGE_STACK 1024
 #define P6K_ESTIMATE_STACK 512
 #define P6K_READ_STACK 512
 #define P6K_WRITE_STACK 256
@@ -74,13 +75,18 @@ typedef struct {
     bool over_latch;
 } p6k_channel;
 
-/* Levels in sixteenths of a code, 1 to 10,700: a drop for each channel, a pickup for each current. And a restraint
- * level for each current, in hundredths: a frame feeds the over run only if the second harmonic's amplitude is less
- * than so many hundredths of the fundamental's. */
+/* What a dispatcher can change. Levels in sixteenths of a code, 1 to 10,700: a drop for each channel, a pickup for each
+ * current. And a restraint level for each current, in hundredths: a frame feeds the over run only if the second
+ * harmonic's amplitude is less than so many hundredths of the fundamental's. */
 typedef struct {
     uint16_t drop[6];
     uint16_t pickup[3];
     uint8_t restraint[3]; /* 0 off, or 1 to 100 */
+} p6k_levels;
+
+/* All that a relay is made with. */
+typedef struct {
+    p6k_levels levels;
 } p6k_settings;
 
 /* The relay goes in and comes back by value; the caller keeps it. */
@@ -120,6 +126,11 @@ typedef struct {
 } p6k_reset_answer;
 
 typedef struct {
+    p6k_relay relay;
+    uint8_t refusal;
+} p6k_change_answer;
+
+typedef struct {
     uint8_t refusal;
     uint16_t amplitude; /* in sixteenths of a code */
 } p6k_estimate_answer;
@@ -151,6 +162,12 @@ p6k_frame_answer p6k_frame(p6k_relay relay, p6k_codes codes, uint8_t enable);
 
 /* Clears runs and latches of the channels that mask's bits 0 to 5 name. Checks 2, 5; refused: the relay as given. */
 p6k_reset_answer p6k_reset(p6k_relay relay, uint8_t mask);
+
+/* New levels, all of them, while the relay goes on. Windows, slot, age, latches and the remembered bit 6 carry over. A
+ * run carries over where its own level is equal, the drop for a loss run, pickup and restraint for an over run;
+ * otherwise it becomes 0. Levels changed and changed back are two changes: the run is 0. Checks 2, 1, 20; refused: the
+ * relay as given. Latches and bit 6 are bools: of one that came in as a byte other than 0 or 1 nothing is promised. */
+p6k_change_answer p6k_change(p6k_relay relay, p6k_levels levels);
 
 /* The amplitude of one window for an order: 1 for the fundamental, which a frame answers, 2 or 3 for that harmonic.
  * Checks 19; refused: amplitude 0. */

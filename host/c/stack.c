@@ -31,6 +31,7 @@ static size_t depth(void (*function)(void), uint8_t paint)
 
 /* What the calls are handed and what they answer. Each has a function that does nothing else. */
 static p6k_settings settings;
+static p6k_levels levels;
 static p6k_relay relay;
 static p6k_codes codes;
 static p6k_samples samples;
@@ -42,6 +43,7 @@ static size_t cells_length, bytes_length, text_length, first, count, channel;
 static p6k_fresh_answer made;
 static p6k_frame_answer framed;
 static p6k_reset_answer cleared;
+static p6k_change_answer changed;
 static p6k_estimate_answer estimated;
 static p6k_answer taken, written;
 static p6k_part part;
@@ -51,6 +53,7 @@ static size_t reported;
 static void make(void) { made = p6k_fresh(settings); }
 static void frame(void) { framed = p6k_frame(relay, codes, enable); }
 static void reset(void) { cleared = p6k_reset(relay, mask); }
+static void change(void) { changed = p6k_change(relay, levels); }
 static void estimate(void) { estimated = p6k_estimate(samples, order); }
 static void read_cells(void) { taken = p6k_read(bytes, bytes_length, cells, cells_length); }
 static void write_bytes(void) { written = p6k_write(cells, cells_length, bytes, bytes_length); }
@@ -66,7 +69,7 @@ static void known(void)
         room[k] = 1;
 }
 
-enum { FRESH, FRAME, RESET, ESTIMATE, READ, WRITE, EXCERPT, STRONGEST, REPORT, KNOWN, CALLS };
+enum { FRESH, FRAME, RESET, CHANGE, ESTIMATE, READ, WRITE, EXCERPT, STRONGEST, REPORT, KNOWN, CALLS };
 static const struct {
     const char *name;
     void (*call)(void);
@@ -75,6 +78,7 @@ static const struct {
     {"fresh", make, P6K_FRESH_STACK},
     {"frame", frame, P6K_FRAME_STACK},
     {"reset", reset, P6K_RESET_STACK},
+    {"change", change, P6K_CHANGE_STACK},
     {"estimate", estimate, P6K_ESTIMATE_STACK},
     {"read", read_cells, P6K_READ_STACK},
     {"write", write_bytes, P6K_WRITE_STACK},
@@ -84,7 +88,7 @@ static const struct {
     {"known", known, 10256},
 };
 static size_t deepest[CALLS];
-static unsigned refusals[P6K_BAD_RESTRAINT + 1];
+static unsigned refusals[P6K_BAD_RESTRAINT + 1], refusals_of_changes[P6K_BAD_RESTRAINT + 1];
 
 /* Two paints, since a byte that was written may be the paint of one. The call goes first on the program's own stack,
  * for a dynamic linker's look-up. */
@@ -99,23 +103,39 @@ static void measure(int k)
     }
 }
 
-static void frame_and_reset(void)
+/* A frame, a reset, and changes to levels that are equal, that differ in some places or in all, and that are wrong. */
+static void calls_on_the_relay(unsigned n)
 {
     measure(FRAME);
     refusals[framed.refusal]++;
     measure(RESET);
     refusals[cleared.refusal]++;
+    for (int kind = 0; kind < 5; kind++) {
+        levels = relay.settings.levels;
+        for (unsigned c = 0; c < 6; c++)
+            levels.drop[c] = (uint16_t)(levels.drop[c] + (kind == 1 ? n >> c & 1 : kind >= 2));
+        for (unsigned c = 0; c < 3; c++) {
+            levels.pickup[c] = (uint16_t)(levels.pickup[c] + (kind == 1 ? n >> (c + 3) & 1 : kind >= 2));
+            levels.restraint[c] = (uint8_t)(levels.restraint[c] + (kind == 1 ? n >> (c + 5) & 1 : kind >= 2));
+        }
+        if (kind == 3)
+            levels.pickup[2] = 0;
+        if (kind == 4)
+            levels.restraint[2] = 101;
+        measure(CHANGE);
+        refusals_of_changes[changed.refusal]++;
+    }
 }
 
 /* Relays without restraint and with it that are fresh, settled, tripped, settling again and not sound, and what refuses
- * a frame or a reset. */
+ * a frame, a reset or a change. */
 static void relays(uint8_t restraint)
 {
     for (int c = 0; c < 6; c++)
-        settings.drop[c] = 819;
+        settings.levels.drop[c] = 819;
     for (int c = 0; c < 3; c++) {
-        settings.pickup[c] = 3413;
-        settings.restraint[c] = restraint;
+        settings.levels.pickup[c] = 3413;
+        settings.levels.restraint[c] = restraint;
     }
     measure(FRESH);
     relay = made.relay;
@@ -124,20 +144,20 @@ static void relays(uint8_t restraint)
             codes.codes[c] = (uint16_t)(n % 8 < 4 ? 1023 : 0);
         enable = n % 100 == 50 ? 0 : 0x7F;
         mask = (uint8_t)(n % 64);
-        frame_and_reset();
+        calls_on_the_relay(n);
         relay = framed.relay;
     }
     enable = 0x80;
     mask = 0x40;
-    frame_and_reset();
+    calls_on_the_relay(0);
     codes.codes[5] = 1024;
-    frame_and_reset();
+    calls_on_the_relay(0);
     relay.channels[5].samples[7] = 512;
-    frame_and_reset();
-    settings.restraint[2] = 101;
+    calls_on_the_relay(0);
+    settings.levels.restraint[2] = 101;
     measure(FRESH);
     refusals[made.refusal]++;
-    settings.pickup[2] = 0;
+    settings.levels.pickup[2] = 0;
     measure(FRESH);
     refusals[made.refusal]++;
 }
@@ -226,6 +246,12 @@ int main(void)
     for (int n = P6K_ACCEPTED; n <= P6K_BAD_RESTRAINT; n++)
         if (refusals[n] == 0 && (n <= P6K_FEW_FRAMES || n >= P6K_BAD_ESTIMATE)) {
             printf("failed: no call was answered with %d\n", n);
+            failed = 1;
+        }
+    const int of_changes[4] = {P6K_ACCEPTED, P6K_BAD_SETTING, P6K_UNSOUND_RELAY, P6K_BAD_RESTRAINT};
+    for (int k = 0; k < 4; k++)
+        if (refusals_of_changes[of_changes[k]] == 0) {
+            printf("failed: no change was answered with %d\n", of_changes[k]);
             failed = 1;
         }
     for (int k = 0; k < CALLS; k++)

@@ -63,15 +63,22 @@ pub struct Channel {
     pub over_latch: bool,
 }
 
-/// A drop level for each channel and a pickup level for each current (channels 3, 4, 5), in sixteenths of a code; and a
-/// restraint level for each current, 0 for off or 1 to 100: so many hundredths of the fundamental, which the second
-/// harmonic must not reach in a frame that feeds the over run.
+/// What a dispatcher can change: a drop level for each channel and a pickup level for each current (channels 3, 4, 5),
+/// in sixteenths of a code; and a restraint level for each current, 0 for off or 1 to 100: so many hundredths of the
+/// fundamental, which the second harmonic must not reach in a frame that feeds the over run.
 #[repr(C)]
 #[derive(Clone, Copy, Debug, Default, PartialEq, Eq)]
-pub struct Settings {
+pub struct Levels {
     pub drop: [u16; 6],
     pub pickup: [u16; 3],
     pub restraint: [u8; 3],
+}
+
+/// All that a relay is made with.
+#[repr(C)]
+#[derive(Clone, Copy, Debug, Default, PartialEq, Eq)]
+pub struct Settings {
+    pub levels: Levels,
 }
 
 /// Any value may be handed in: a relay that is not sound is refused and comes back as it was. `device_on` is bit 6 of
@@ -106,6 +113,13 @@ pub struct FrameAnswer {
 #[repr(C)]
 #[derive(Clone, Copy, Debug, PartialEq, Eq)]
 pub struct ResetAnswer {
+    pub relay: Relay,
+    pub refusal: u8,
+}
+
+#[repr(C)]
+#[derive(Clone, Copy, Debug, PartialEq, Eq)]
+pub struct ChangeAnswer {
     pub relay: Relay,
     pub refusal: u8,
 }
@@ -160,6 +174,7 @@ mod raw {
         pub fn p6k_fresh(settings: Settings) -> FreshAnswer;
         pub fn p6k_frame(relay: Relay, codes: Codes, enable: u8) -> FrameAnswer;
         pub fn p6k_reset(relay: Relay, mask: u8) -> ResetAnswer;
+        pub fn p6k_change(relay: Relay, levels: Levels) -> ChangeAnswer;
         pub fn p6k_estimate(window: Samples, order: u8) -> EstimateAnswer;
         pub fn p6k_read(bytes: *const u8, bytes_length: usize, cells: *mut u16, cells_length: usize) -> Answer;
         pub fn p6k_write(cells: *const u16, cells_length: usize, bytes: *mut u8, bytes_length: usize) -> Answer;
@@ -184,6 +199,12 @@ impl Relay {
     /// Clears runs and latches of the channels that bits 0 to 5 name.
     pub fn reset(self, mask: u8) -> ResetAnswer {
         unsafe { raw::p6k_reset(self, mask) }
+    }
+
+    /// New levels, all of them, while the relay goes on. A run is kept where its own level is equal (loss: the drop;
+    /// over: pickup and restraint) and is 0 otherwise; all else stays. With 2, 1 or 20 the relay as given.
+    pub fn change(self, levels: Levels) -> ChangeAnswer {
+        unsafe { raw::p6k_change(self, levels) }
     }
 }
 

@@ -1,15 +1,16 @@
-//! Fresh, frame, reset and estimate of the archive against the second implementation: random lists of calls on relays
-//! that the archive itself hands back, with refused calls and resets among them, levels next to the amplitudes,
-//! restraint next to the second harmonic, and the device switched off and on; single calls on relays that a caller made
-//! up; and estimates. Every answer is compared whole. `cargo test --release --test calls -- --long` runs twenty times
-//! as much.
+//! Fresh, frame, reset, change and estimate of the archive against the second implementation: random lists of calls on
+//! relays that the archive itself hands back, with refused calls and resets among them, levels next to the amplitudes,
+//! restraint next to the second harmonic, and the device switched off and on; lists of the second implementation's own,
+//! in which levels are changed as well; single calls on relays that a caller made up; and estimates. Every answer is
+//! compared whole. `cargo test --release --test calls -- --long` runs twenty times as much.
 
 mod support;
 
 use reference::prng::Prng;
-use reference::relay::{frame_refusal, is_enabled, is_sound, reset_refusal};
+use reference::relay::{frame_refusal, is_enabled, is_sound, levels_refusal, reset_refusal, settings_refusal};
 use reference::relay::{FIRST_CURRENT, FULL_AGE, HIGHEST_LEVEL, HIGHEST_RESTRAINT};
-use reference::{amplitude, amplitude_of_order, Call, Exact, History, Latch, Settings};
+use reference::trace::{self, RunsAtChanges};
+use reference::{amplitude, amplitude_of_order, Call, Exact, History, Latch, Levels, Settings};
 use support::{Flags, Refusals};
 
 /// What the calls met, so that a run that saw little fails.
@@ -25,6 +26,7 @@ struct Seen {
     by_history: u64,
     restraint: Restraint,
     settling: Settling,
+    changes: Changes,
     /// Accepted frames with bit 6 on for a relay handed in that remembers it as off, at age 72 and with a run above 0.
     runs_kept: u64,
     /// Relays handed in that r above 100 alone makes unsound: below 255, and 255.
@@ -62,9 +64,31 @@ struct Settling {
     changed: u64,
 }
 
-/// The second implementation's settings and relay as the archive's.
-fn settings_of(of: &reference::Settings) -> host::Settings {
-    host::Settings { drop: of.drop, pickup: of.pickup, restraint: of.restraint }
+/// Changed levels.
+#[derive(Default)]
+struct Changes {
+    refusals: Refusals,
+    /// Refused by 2 where the levels are wrong too, and by 1 where a restraint level is above 100 too.
+    first: [u64; 2],
+    /// Accepted, to the levels in force.
+    equal: u64,
+    runs: RunsAtChanges,
+    /// Loss and over latches that an accepted change found on and that stayed, though their run's own level moved.
+    outlived: [u64; 2],
+    /// Accepted right after an accepted one that it takes back.
+    back: u64,
+    /// Frames of the lists whose output byte is another on a relay whose changes keep every run, and on one whose
+    /// changes make every run 0.
+    told: [u64; 2],
+}
+
+/// The second implementation's levels, settings and relay as the archive's.
+fn levels_of(of: &Levels) -> host::Levels {
+    host::Levels { drop: of.drop, pickup: of.pickup, restraint: of.restraint }
+}
+
+fn settings_of(of: &Settings) -> host::Settings {
+    host::Settings { levels: levels_of(&of.levels) }
 }
 
 fn relay_of(of: &reference::Relay) -> host::Relay {
@@ -137,19 +161,19 @@ fn restraint(wave: &Wave, prng: &mut Prng) -> u8 {
 }
 
 /// One level out of range, or a restraint level, or both.
-fn spoiled(mut settings: Settings, prng: &mut Prng) -> Settings {
+fn spoiled(mut levels: Levels, prng: &mut Prng) -> Levels {
     let wrong = [0, 10_701, 65_535][prng.below(3) as usize];
     let both = prng.once_in(4);
     let place = prng.below(12) as usize;
     match place {
-        c @ 0..=5 => settings.drop[c] = wrong,
-        c @ 6..=8 => settings.pickup[c - 6] = wrong,
+        c @ 0..=5 => levels.drop[c] = wrong,
+        c @ 6..=8 => levels.pickup[c - 6] = wrong,
         _ => {}
     }
     if place > 8 || both {
-        settings.restraint[place % 3] = [101, 102, 128, 255][prng.below(4) as usize];
+        levels.restraint[place % 3] = [101, 102, 128, 255][prng.below(4) as usize];
     }
-    settings
+    levels
 }
 
 /// A fresh relay of both.
@@ -168,8 +192,9 @@ fn fresh_of_any(prng: &mut Prng, seen: &mut Seen) {
     let drop = std::array::from_fn(|_| level(&wave, prng));
     let pickup = std::array::from_fn(|_| level(&wave, prng));
     let restraint = std::array::from_fn(|_| restraint(&wave, prng));
-    let settings = Settings { drop, pickup, restraint };
-    fresh(if prng.once_in(2) { spoiled(settings, prng) } else { settings }, seen);
+    let levels = Levels { drop, pickup, restraint };
+    let levels = if prng.once_in(2) { spoiled(levels, prng) } else { levels };
+    fresh(Settings { levels }, seen);
 }
 
 /// Bit 6 in the accepted frames of a list, and for how many more it stays so. In a third of the lists it is always on.
@@ -264,40 +289,92 @@ impl Source {
     }
 }
 
-/// A list of calls on one relay. Where asked, the archive's answers are held to the history of the list too.
+/// A list of calls on one relay.
 fn list(prng: &mut Prng, seen: &mut Seen, by_history: bool) {
     let waves = std::array::from_fn(|_| Wave::random(prng));
     let mut source = Source { waves, channels: 0x3F, switch: Switch::random(prng), frames: 0 };
     let drop = source.waves.map(|wave| level(&wave, prng));
     let pickup = std::array::from_fn(|k| level(&source.waves[FIRST_CURRENT + k], prng));
     let restraint = std::array::from_fn(|k| restraint(&source.waves[FIRST_CURRENT + k], prng));
-    let mut settings = Settings { drop, pickup, restraint };
+    let mut levels = Levels { drop, pickup, restraint };
     if prng.once_in(25) {
-        settings = spoiled(settings, prng);
+        levels = spoiled(levels, prng);
     }
-    let (made, expected) = fresh(settings, seen);
-
+    let settings = Settings { levels };
     // After refusals 1 and 20 the all-zero relay is handed on: each call is refused by 2.
-    let length = if made.refusal == 0 { prng.below(500) } else { 10 };
+    let length = if settings_refusal(&settings) == 0 { prng.below(500) } else { 10 };
+    let calls: Vec<Call> = (0..length).map(|_| source.call(prng)).collect();
+    play(settings, &calls, seen, by_history);
+}
+
+/// Makes the calls of a list on both. Where asked, the archive's answers are held to the history of the list too.
+fn play(settings: Settings, calls: &[Call], seen: &mut Seen, by_history: bool) {
+    let (made, expected) = fresh(settings, seen);
     let mut step = Step { ours: made.relay, theirs: expected.relay, shown: 0, hidden: 0 };
     let mut watch = Watch::of(expected.relay);
-    let mut calls = Vec::new();
+    let mut wrong = [true, false].map(|keeps| WrongChange { keeps, relay: expected.relay });
     let mut answers = Vec::new();
-    for _ in 0..length {
-        let call = source.call(prng);
+    for &call in calls {
         let before = step.theirs;
         let output = step.make(call, seen);
-        if made.refusal == 0 {
-            watch.look_at(call, &before, &step.ours, output, &mut seen.settling);
+        if made.refusal != 0 {
+            continue;
         }
-        if by_history && made.refusal == 0 {
-            calls.push(call);
-            answers.push((output, step.ours));
+        watch.look_at(call, &before, &step.ours, output, &mut seen.settling);
+        for (told, wrong) in seen.changes.told.iter_mut().zip(&mut wrong) {
+            *told += u64::from(wrong.output(call) != output);
         }
+        answers.push((output, step.ours));
     }
     if by_history && made.refusal == 0 {
-        hold_to_history(settings, &calls, &answers);
+        hold_to_history(settings, calls, &answers);
         seen.by_history += 1;
+    }
+    seen.changes.back += changes_back(settings, calls);
+}
+
+/// Accepted changes to the levels that the accepted change right before them replaced with others.
+fn changes_back(settings: Settings, calls: &[Call]) -> u64 {
+    let mut in_force = settings.levels;
+    let mut replaced = None;
+    let mut back = 0;
+    for call in calls {
+        let Call::Change(new) = *call else {
+            replaced = None;
+            continue;
+        };
+        if levels_refusal(&new) == 0 {
+            back += u64::from(replaced == Some(new) && new != in_force);
+            (replaced, in_force) = (Some(in_force), new);
+        }
+    }
+    back
+}
+
+/// A relay whose accepted changes keep every run, or make every run 0.
+struct WrongChange {
+    keeps: bool,
+    relay: reference::Relay,
+}
+
+impl WrongChange {
+    /// The output byte of a call, 0 for a reset or a change.
+    fn output(&mut self, call: Call) -> u8 {
+        match call {
+            Call::Frame { codes, enable } => {
+                let answer = reference::frame(self.relay, codes, enable);
+                self.relay = answer.relay;
+                return answer.output;
+            }
+            Call::Change(levels) if levels_refusal(&levels) == 0 => {
+                self.relay.settings.levels = levels;
+                for channel in self.relay.channels.iter_mut().filter(|_| !self.keeps) {
+                    (channel.loss_run, channel.over_run) = (0, 0);
+                }
+            }
+            _ => self.relay = trace::play(self.relay, &call).0,
+        }
+        0
     }
 }
 
@@ -311,7 +388,8 @@ struct Step {
 }
 
 impl Step {
-    /// Makes the call on both relays and compares all that comes back; answers the output byte, 0 for a reset.
+    /// Makes the call on both relays and compares all that comes back; answers the output byte, 0 for a reset or a
+    /// change.
     fn make(&mut self, call: Call, seen: &mut Seen) -> u8 {
         let before = self.theirs;
         let (refusal, output) = match call {
@@ -338,6 +416,20 @@ impl Step {
                 );
                 self.theirs = expected.relay;
                 self.ours = answer.relay;
+                (answer.refusal, 0)
+            }
+            Call::Change(levels) => {
+                let expected = reference::change(self.theirs, levels);
+                let answer = self.ours.change(levels_of(&levels));
+                assert_eq!(
+                    (answer.refusal, answer.relay),
+                    (expected.number, relay_of(&expected.relay)),
+                    "{call:?} on {before:?}"
+                );
+                self.theirs = expected.relay;
+                self.ours = answer.relay;
+                hold_to_words(&before, &levels, &answer);
+                seen.changes.look_at(&levels, answer.refusal, &before, &self.theirs);
                 (answer.refusal, 0)
             }
         };
@@ -398,6 +490,10 @@ impl Watch {
                 self.reset |= reset_refusal(mask) == 0;
                 return;
             }
+            Call::Change(levels) => {
+                self.unsettled = reference::change(self.unsettled, levels).relay;
+                return;
+            }
         };
         let on = enable & 0x40 != 0;
         if frame_refusal(&codes, enable) != 0 {
@@ -435,9 +531,47 @@ impl Watch {
     }
 }
 
+impl Changes {
+    /// A change, and the relay before and after it.
+    fn look_at(&mut self, levels: &Levels, refusal: u8, before: &reference::Relay, after: &reference::Relay) {
+        self.refusals.count(refusal);
+        match refusal {
+            2 => self.first[0] += u64::from(levels_refusal(levels) != 0),
+            1 => self.first[1] += u64::from(levels.restraint.iter().any(|&r| r > HIGHEST_RESTRAINT)),
+            0 => self.look_at_accepted(levels, before, after),
+            _ => {}
+        }
+    }
+
+    fn look_at_accepted(&mut self, levels: &Levels, before: &reference::Relay, after: &reference::Relay) {
+        let old = &before.settings.levels;
+        self.equal += u64::from(levels == old);
+        self.runs.add_change(before, after);
+        for (c, channel) in before.channels.iter().enumerate() {
+            let moved = |latch: Latch| latch.own_level(old, c) != latch.own_level(levels, c);
+            self.outlived[0] += u64::from(channel.loss_latch && moved(Latch::Loss));
+            self.outlived[1] += u64::from(channel.over_latch && moved(Latch::Over));
+        }
+    }
+
+    /// Prints what was met, and fails where a refusal came fewer than 100 times, or runs were kept or broken fewer than
+    /// 10,000 times.
+    fn show(&self, refusals: impl IntoIterator<Item = usize>) {
+        let RunsAtChanges { loss_kept, loss_broken, over_kept, over_broken } = self.runs;
+        self.refusals.show(refusals);
+        let [unsound, level] = self.first;
+        println!("  refused by 2 with wrong levels too {unsound}, by 1 with a restraint above 100 too {level}");
+        println!("  runs kept and broken: loss {loss_kept} and {loss_broken}, over {over_kept} and {over_broken}");
+        let [loss, over] = self.outlived;
+        println!("  to the levels in force {}; latches on, level moved: loss {loss}, over {over}", self.equal);
+        assert!([loss_kept, loss_broken, over_kept, over_broken].iter().all(|&count| count >= 10_000));
+        assert!(self.first[1] >= 100 && self.equal >= 1_000 && self.outlived.iter().all(|&count| count >= 1_000));
+    }
+}
+
 impl Restraint {
     fn look_at(&mut self, answer: &host::FrameAnswer, counted: bool, enable: u8) {
-        let Settings { pickup, restraint, .. } = answer_settings(answer);
+        let host::Levels { pickup, restraint, .. } = answer.relay.settings.levels;
         for k in 0..3 {
             let (m1, c) = (answer.amplitudes[FIRST_CURRENT + k], FIRST_CURRENT + k);
             if !counted || !is_enabled(enable, c) || m1 < pickup[k] || restraint[k] == 0 {
@@ -454,9 +588,17 @@ impl Restraint {
     }
 }
 
-fn answer_settings(answer: &host::FrameAnswer) -> Settings {
-    let host::Settings { drop, pickup, restraint } = answer.relay.settings;
-    Settings { drop, pickup, restraint }
+/// "Windows, slot, age, latches and the remembered bit 6 carry over", and the levels are the new ones; "refused [...]
+/// relay as given".
+fn hold_to_words(before: &reference::Relay, levels: &Levels, answer: &host::ChangeAnswer) {
+    let mut expected = relay_of(before);
+    if answer.refusal == 0 {
+        expected.settings.levels = levels_of(levels);
+        for (channel, after) in expected.channels.iter_mut().zip(&answer.relay.channels) {
+            (channel.loss_run, channel.over_run) = (after.loss_run, after.over_run);
+        }
+    }
+    assert_eq!(answer.relay, expected, "{levels:?} on {before:?}");
 }
 
 fn compare_frame(answer: &host::FrameAnswer, expected: &reference::Framed, before: &reference::Relay, call: Call) {
@@ -476,7 +618,8 @@ fn within_2(answer: &host::FrameAnswer) {
     }
 }
 
-/// Latches, output bytes, age and remembered bit 6 after each call, by the history that is read from the list alone.
+/// Latches, output bytes, age, remembered bit 6 and levels after each call, by the history that is read from the list
+/// alone.
 fn hold_to_history(settings: Settings, calls: &[Call], answers: &[(u8, host::Relay)]) {
     let history = History::of(settings, calls);
     let mut n = 0;
@@ -487,6 +630,7 @@ fn hold_to_history(settings: Settings, calls: &[Call], answers: &[(u8, host::Rel
         }
         let by_history = (history.age(place + 1), history.device_on(place + 1));
         assert_eq!((usize::from(relay.age), relay.device_on), by_history, "after call {place}");
+        assert_eq!(relay.settings.levels, levels_of(&history.levels(place + 1)), "after call {place}");
         if history.frames.get(n).is_some_and(|frame| frame.place == place) {
             assert_eq!(*output, history.output(n), "frame {n}");
             n += 1;
@@ -498,7 +642,7 @@ fn hold_to_history(settings: Settings, calls: &[Call], answers: &[(u8, host::Rel
 /// One call on a relay that a caller made up, sound or not.
 fn handed_in(prng: &mut Prng, seen: &mut Seen) {
     // Restraint is next to the second harmonic in half of these.
-    let (theirs, mut codes, _) = reference::trace::frame_arguments(prng);
+    let (theirs, mut codes, _) = trace::frame_arguments(prng);
     let mut step = Step { ours: relay_of(&theirs), theirs, shown: 0, hidden: 0 };
     let call = if prng.once_in(4) {
         Call::Reset { mask: if prng.once_in(3) { prng.below(256) } else { prng.below(64) } as u8 }
@@ -515,12 +659,18 @@ fn handed_in(prng: &mut Prng, seen: &mut Seen) {
         let runs = theirs.channels.iter().any(|channel| channel.loss_run > 0 || channel.over_run > 0);
         seen.runs_kept += u64::from(accepted && is_rise(&theirs, enable) && theirs.age == FULL_AGE && runs);
     }
-    let highest = theirs.settings.restraint.into_iter().max().unwrap();
+    let highest = theirs.settings.levels.restraint.into_iter().max().unwrap();
     let mut without = theirs;
-    without.settings.restraint = [0; 3];
+    without.settings.levels.restraint = [0; 3];
     if is_sound(&without) && !is_sound(&theirs) {
         seen.by_restraint[usize::from(highest == 255)] += 1;
     }
+}
+
+/// One change on a relay that a caller made up, sound or not.
+fn change_handed_in(prng: &mut Prng, seen: &mut Seen) {
+    let (theirs, levels) = trace::change_arguments(prng);
+    Step { ours: relay_of(&theirs), theirs, shown: 0, hidden: 0 }.make(Call::Change(levels), seen);
 }
 
 /// One window for an order, in range or not.
@@ -575,6 +725,19 @@ fn main() {
     for _ in 0..estimates {
         estimate(&mut prng, &mut seen);
     }
+    // Apart, so that what the other calls have to meet is met without these.
+    let mut changing = Seen::default();
+    let mut prng = flags.prng(5);
+    let changing_lists = 800 * flags.times;
+    for k in 0..changing_lists {
+        let (settings, calls) = trace::list(&mut prng);
+        play(settings, &calls, &mut changing, k % 4 == 0);
+    }
+    let mut made_up_changes = Seen::default();
+    let mut prng = flags.prng(6);
+    for _ in 0..100_000 * flags.times {
+        change_handed_in(&mut prng, &mut made_up_changes);
+    }
     println!(
         "calls: {in_lists} in {lists} lists, {made_up} on relays that a caller made up, {estimates} estimates, seed {}: all agree",
         flags.seed
@@ -612,4 +775,14 @@ fn main() {
     assert!(falls >= 3_000 && rises.iter().all(|&count| count >= 1_000) && again >= 300 && resets >= 300);
     assert!(refused.iter().all(|&count| count >= 100) && changed >= 10_000 && seen.runs_kept >= 10_000);
     assert!(latched.iter().all(|&count| count >= 500) && at_once.iter().all(|&count| count >= 100));
+
+    let Changes { told, back, .. } = changing.changes;
+    println!("calls: {} in {changing_lists} lists of the second implementation: all agree; changes:", changing.calls);
+    changing.changes.show([1, 20]);
+    println!("  changed back at once {back}; outputs that tell if all runs are kept {}, if none is {}", told[0], told[1]);
+    println!("  lists held to the latch history too: {}", changing.by_history);
+    assert!(changing.by_history >= 200 && back >= 1_000 && told.iter().all(|&count| count >= 1_000));
+    println!("calls: {} changes on relays that a caller made up: all agree", made_up_changes.calls);
+    made_up_changes.changes.show([1, 2, 20]);
+    assert!(made_up_changes.changes.first[0] >= 100);
 }

@@ -2,7 +2,8 @@
 //! places written down here.
 
 use host::{estimate, excerpt, read, refusal, report, strongest, write};
-use host::{Channel, EstimateAnswer, FrameAnswer, FreshAnswer, Relay, ResetAnswer, Settings, StrongestWindow};
+use host::{ChangeAnswer, EstimateAnswer, FrameAnswer, FreshAnswer, ResetAnswer, StrongestWindow};
+use host::{Channel, Levels, Relay, Settings};
 use host::{FRAME_CELLS, READ_ROOM, REPORT_ROOM, WRITE_ROOM};
 use std::mem::{align_of, offset_of, size_of};
 
@@ -11,13 +12,15 @@ fn layout() {
     assert_eq!((size_of::<Channel>(), align_of::<Channel>()), (20, 2));
     assert_eq!((offset_of!(Channel, loss_run), offset_of!(Channel, over_run)), (16, 17));
     assert_eq!((offset_of!(Channel, loss_latch), offset_of!(Channel, over_latch)), (18, 19));
-    // The last byte of the settings, and so of a relay, is padding; so is the one before a relay's settings.
-    assert_eq!((size_of::<Settings>(), offset_of!(Settings, pickup), offset_of!(Settings, restraint)), (22, 12, 18));
+    // The last byte of the levels, and so of a relay, is padding; so is the one before a relay's settings.
+    assert_eq!((size_of::<Levels>(), offset_of!(Levels, pickup), offset_of!(Levels, restraint)), (22, 12, 18));
+    assert_eq!((size_of::<Settings>(), offset_of!(Settings, levels)), (22, 0));
     assert_eq!((size_of::<Relay>(), align_of::<Relay>()), (146, 2));
     assert_eq!((offset_of!(Relay, age), offset_of!(Relay, slot)), (120, 121));
     assert_eq!((offset_of!(Relay, device_on), offset_of!(Relay, settings)), (122, 124));
     assert_eq!((size_of::<FreshAnswer>(), offset_of!(FreshAnswer, refusal)), (148, 146));
     assert_eq!((size_of::<ResetAnswer>(), offset_of!(ResetAnswer, refusal)), (148, 146));
+    assert_eq!((size_of::<ChangeAnswer>(), offset_of!(ChangeAnswer, refusal)), (148, 146));
     assert_eq!((size_of::<FrameAnswer>(), offset_of!(FrameAnswer, refusal)), (162, 146));
     assert_eq!((offset_of!(FrameAnswer, amplitudes), offset_of!(FrameAnswer, output)), (148, 160));
     assert_eq!((size_of::<EstimateAnswer>(), align_of::<EstimateAnswer>(), offset_of!(EstimateAnswer, amplitude)), (4, 2, 2));
@@ -25,7 +28,12 @@ fn layout() {
     assert_eq!((size_of::<StrongestWindow>(), offset_of!(StrongestWindow, sum), offset_of!(StrongestWindow, frame)), (16, 4, 8));
 }
 
-const SETTINGS: Settings = Settings { drop: [819; 6], pickup: [3413; 3], restraint: [0; 3] };
+const LEVELS: Levels = Levels { drop: [819; 6], pickup: [3413; 3], restraint: [0; 3] };
+const SETTINGS: Settings = Settings { levels: LEVELS };
+
+fn made_with(levels: Levels) -> FreshAnswer {
+    Relay::fresh(Settings { levels })
+}
 
 /// A recording of a fault on channel 4, fed to a relay; the latch is shown until it is reset.
 #[test]
@@ -53,7 +61,7 @@ fn a_fault_is_seen_and_reset() {
 fn the_device_switch_settles_the_relay_again() {
     let fault = [900, 786, 512, 238, 124, 238, 512, 786];
     for (off, trip) in [(0..0, 75), (0..1, 76), (50..60, 135), (72..75, 150), (60..100, 175)] {
-        let mut relay = Relay::fresh(Settings { drop: [1; 6], ..SETTINGS }).relay;
+        let mut relay = made_with(Levels { drop: [1; 6], ..LEVELS }).relay;
         assert!(relay.device_on);
         let mut outputs = Vec::new();
         for n in 0..200 {
@@ -65,7 +73,7 @@ fn the_device_switch_settles_the_relay_again() {
         }
         assert_eq!(outputs.iter().position(|&output| output != 0), Some(trip), "off in {off:?}");
     }
-    let refused = Relay::fresh(Settings { drop: [0; 6], ..SETTINGS });
+    let refused = made_with(Levels { drop: [0; 6], ..LEVELS });
     assert!(refused.refusal == refusal::BAD_SETTING && !refused.relay.device_on);
 }
 
@@ -79,7 +87,7 @@ fn a_second_harmonic_restrains() {
     assert_eq!(second, EstimateAnswer { refusal: refusal::ACCEPTED, amplitude: 916 });
     assert_eq!(estimate(inrush, 4), EstimateAnswer { refusal: refusal::BAD_ESTIMATE, amplitude: 0 });
     for (restraint, output) in [(0, 0x08), (24, 0x00), (25, 0x08), (100, 0x08)] {
-        let mut relay = Relay::fresh(Settings { drop: [1; 6], restraint: [restraint; 3], ..SETTINGS }).relay;
+        let mut relay = made_with(Levels { drop: [1; 6], restraint: [restraint; 3], ..LEVELS }).relay;
         let mut last = 0;
         for n in 0..80 {
             let answer = relay.frame([512, 512, 512, (512 + inrush[n % 8]) as u16, 512, 512], 0x7F);
@@ -87,8 +95,75 @@ fn a_second_harmonic_restrains() {
         }
         assert_eq!(last, output, "restraint {restraint}");
     }
-    let refused = Relay::fresh(Settings { restraint: [0, 0, 101], ..SETTINGS });
+    let refused = made_with(Levels { restraint: [0, 0, 101], ..LEVELS });
     assert_eq!((refused.refusal, refused.relay), (refusal::BAD_RESTRAINT, Relay::default()));
+}
+
+/// A wave on channel 4 that just reaches the pickup, the other channels still and just below the drop; levels are
+/// changed after frame 74. By then each run has counted frames 72, 73 and 74. The over run is full with frame 75 if it
+/// is kept and with frame 78 if not; a loss run with frame 87, or with frame 90.
+#[test]
+fn levels_are_changed_while_the_relay_runs() {
+    let wave = [612, 583, 512, 441, 412, 441, 512, 583];
+    let base = Levels { drop: [1; 6], pickup: [1603; 3], restraint: [0; 3] };
+    let run = |mut relay: Relay, frames: std::ops::Range<usize>| {
+        let mut outputs = Vec::new();
+        for n in frames {
+            let answer = relay.frame([512, 512, 512, 512, wave[n % 8], 512], 0x7F);
+            assert_eq!(answer.refusal, refusal::ACCEPTED);
+            relay = answer.relay;
+            outputs.push(answer.output);
+        }
+        (relay, outputs)
+    };
+    let (relay, _) = run(made_with(base).relay, 0..75);
+    assert_eq!((relay.channels[4].over_run, relay.channels[0].loss_run), (3, 3));
+
+    // What is changed, one after the other, and the first frame that shows channel 4, channel 0 and channel 1.
+    let raised = Levels { pickup: [1604; 3], ..base };
+    let cases = [
+        (vec![], [Some(75), Some(87), Some(87)]),
+        (vec![base], [Some(75), Some(87), Some(87)]),
+        (vec![raised], [None, Some(87), Some(87)]),
+        (vec![raised, base], [Some(78), Some(87), Some(87)]),
+        (vec![Levels { pickup: [1604, 1603, 1604], ..base }], [Some(75), Some(87), Some(87)]),
+        (vec![Levels { pickup: [1602; 3], ..base }], [Some(78), Some(87), Some(87)]),
+        (vec![Levels { restraint: [0, 1, 0], ..base }], [Some(78), Some(87), Some(87)]),
+        (vec![Levels { restraint: [1, 0, 1], ..base }], [Some(75), Some(87), Some(87)]),
+        (vec![Levels { drop: [2, 1, 1, 1, 1, 1], ..base }], [Some(75), Some(90), Some(87)]),
+        (vec![Levels { drop: [2; 6], ..base }, base], [Some(75), Some(90), Some(90)]),
+        (vec![Levels { drop: [2; 6], restraint: [0, 0, 101], ..base }], [Some(75), Some(87), Some(87)]),
+    ];
+    for (changes, expected) in cases {
+        let changed = changes.iter().fold(relay, |relay, &levels| relay.change(levels).relay);
+        let (_, outputs) = run(changed, 75..100);
+        let first = [4, 0, 1].map(|c| outputs.iter().position(|output| output >> c & 1 != 0).map(|at| 75 + at));
+        assert_eq!(first, expected, "{changes:?}");
+    }
+
+    // All that is not a run of a changed level stays; the latch too, until it is reset, and then under the new level.
+    let (tripped, _) = run(relay, 75..76);
+    let answer = tripped.change(raised);
+    let mut expected = Relay { settings: Settings { levels: raised }, ..tripped };
+    expected.channels[4].over_run = 0;
+    assert_eq!(answer, ChangeAnswer { relay: expected, refusal: refusal::ACCEPTED });
+    assert!(expected.channels[4].over_latch && run(expected, 76..80).1.iter().all(|&output| output == 0x10));
+    let reset = expected.reset(0x10).relay;
+    assert_eq!(reset.settings.levels, raised);
+    assert!(run(reset, 76..86).1.iter().all(|&output| output == 0));
+
+    // Refused by 20; by 1 before 20; by 2 before both. The relay comes back as it was.
+    let unsound = Relay { age: 73, ..tripped };
+    for (relay, levels, number) in [
+        (tripped, Levels { restraint: [0, 101, 0], ..raised }, refusal::BAD_RESTRAINT),
+        (tripped, Levels { drop: [1, 1, 1, 1, 1, 0], ..raised }, refusal::BAD_SETTING),
+        (tripped, Levels { pickup: [10_701; 3], restraint: [101; 3], ..raised }, refusal::BAD_SETTING),
+        (unsound, raised, refusal::UNSOUND_RELAY),
+        (unsound, Levels { pickup: [0; 3], restraint: [101; 3], ..raised }, refusal::UNSOUND_RELAY),
+        (Relay::default(), base, refusal::UNSOUND_RELAY),
+    ] {
+        assert_eq!(relay.change(levels), ChangeAnswer { relay, refusal: number });
+    }
 }
 
 #[test]

@@ -25,7 +25,8 @@ typedef p6k_relay relay_state;
 
 static relay_state fresh(uint16_t pickup, uint8_t restraint)
 {
-    p6k_settings settings = {{819, 819, 819, 819, 819, 819}, {pickup, pickup, pickup}, {restraint, restraint, restraint}};
+    p6k_levels levels = {{819, 819, 819, 819, 819, 819}, {pickup, pickup, pickup}, {restraint, restraint, restraint}};
+    p6k_settings settings = {levels};
     return p6k_fresh(settings).relay;
 }
 

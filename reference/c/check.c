@@ -32,15 +32,20 @@ static size_t take_size(void)
     return (size_t)size;
 }
 
+static void take_levels(uint16_t drop[CHANNELS], uint16_t pickup[CURRENTS], uint8_t restraint[CURRENTS])
+{
+    for (int c = 0; c < CHANNELS; c++)
+        drop[c] = (uint16_t)take();
+    for (int c = 0; c < CURRENTS; c++)
+        pickup[c] = (uint16_t)take();
+    for (int c = 0; c < CURRENTS; c++)
+        restraint[c] = (uint8_t)take();
+}
+
 static void take_relay(struct relay *relay)
 {
     memset(relay, 0, sizeof *relay);
-    for (int c = 0; c < CHANNELS; c++)
-        relay->drop[c] = (uint16_t)take();
-    for (int c = 0; c < CURRENTS; c++)
-        relay->pickup[c] = (uint16_t)take();
-    for (int c = 0; c < CURRENTS; c++)
-        relay->restraint[c] = (uint8_t)take();
+    take_levels(relay->drop, relay->pickup, relay->restraint);
     relay->age = (uint8_t)take();
     relay->slot = (uint8_t)take();
     relay->device_on = take() != 0;
@@ -78,12 +83,7 @@ static void check_fresh(void)
     uint16_t drop[CHANNELS], pickup[CURRENTS];
     uint8_t restraint[CURRENTS];
     struct relay relay;
-    for (int c = 0; c < CHANNELS; c++)
-        drop[c] = (uint16_t)take();
-    for (int c = 0; c < CURRENTS; c++)
-        pickup[c] = (uint16_t)take();
-    for (int c = 0; c < CURRENTS; c++)
-        restraint[c] = (uint8_t)take();
+    take_levels(drop, pickup, restraint);
     memset(&relay, 1, sizeof relay);
     same_number(relay_fresh(&relay, drop, pickup, restraint));
     same_relay(&relay);
@@ -113,6 +113,17 @@ static void check_reset(void)
     take_relay(&relay);
     uint8_t mask = (uint8_t)take();
     same_number(relay_reset(&relay, mask));
+    same_relay(&relay);
+}
+
+static void check_change(void)
+{
+    uint16_t drop[CHANNELS], pickup[CURRENTS];
+    uint8_t restraint[CURRENTS];
+    struct relay relay;
+    take_relay(&relay);
+    take_levels(drop, pickup, restraint);
+    same_number(relay_change(&relay, drop, pickup, restraint));
     same_relay(&relay);
 }
 
@@ -212,6 +223,7 @@ int main(void)
         case 5: check_write(); break;
         case 6: check_strongest(); break;
         case 7: check_estimate(); break;
+        case 8: check_change(); break;
         default: differs("kind");
         }
     }

@@ -6,10 +6,11 @@ set -eu
 here=$(cd "$(dirname "$0")/.." && pwd)
 cd "$here"
 compiler=${CC:-cc}
-out=target/c
+target=${CARGO_TARGET_DIR:-target}
+out=$target/c
 mkdir -p "$out"
 cargo build --release --offline --locked --quiet
-reference=target/release/reference
+reference=$target/release/reference
 rm -rf "$out/cases"
 "$reference" cases "$out/cases"
 for capture in "$out"/cases/*.p6k; do

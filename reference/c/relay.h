@@ -1,4 +1,4 @@
-/* Six-channel phasor relay, after document 01 and Papers 5 and 8 of
+/* Six-channel phasor relay, after document 01 and Papers 5, 6 and 8 of
    document 02. Every function answers the document's refusal number, 0 if the
    call is accepted. */
 #ifndef RELAY_H
@@ -76,6 +76,11 @@ int relay_fresh(struct relay *relay, const uint16_t drop[CHANNELS], const uint16
 int relay_frame(struct relay *relay, const uint16_t codes[CHANNELS], uint8_t enable, struct framed *answer);
 
 int relay_reset(struct relay *relay, uint8_t mask);
+
+/* New levels, all of them. A run whose own level gets another value becomes 0;
+   all else carries over. Refused, the relay stays as it is. */
+int relay_change(struct relay *relay, const uint16_t drop[CHANNELS], const uint16_t pickup[CURRENTS],
+                 const uint8_t restraint[CURRENTS]);
 
 /* Refused, cells or bytes stay as they are and the count is 0. Reading counts
    frames, writing counts bytes. */

@@ -1,17 +1,19 @@
 //! The latch history of demand 3, read from the list of calls and not by
-//! stepping a relay. Nothing here uses `relay::frame` or `relay::reset`.
+//! stepping a relay. Nothing here uses `relay::frame`, `relay::reset` or
+//! `relay::change`.
 
 use crate::amplitude::{amplitude, amplitude_of_order, sample, Window};
 use crate::exact::Exact;
 use crate::relay::{
-    frame_refusal, is_device_on, is_enabled, is_unrestrained, reset_refusal, Settings, FIRST_CURRENT,
-    FULL_LOSS_RUN, FULL_OVER_RUN,
+    frame_refusal, is_device_on, is_enabled, is_unrestrained, levels_refusal, reset_refusal, Levels, Settings,
+    FIRST_CURRENT, FULL_LOSS_RUN, FULL_OVER_RUN,
 };
 
 #[derive(Clone, Copy, Debug, PartialEq, Eq)]
 pub enum Call {
     Frame { codes: [u16; 6], enable: u8 },
     Reset { mask: u8 },
+    Change(Levels),
 }
 
 #[derive(Clone, Copy, Debug, PartialEq, Eq)]
@@ -27,6 +29,20 @@ impl Latch {
             Latch::Over => usize::from(FULL_OVER_RUN),
         }
     }
+
+    /// The own level of the channel's run of this kind, in these levels: the
+    /// drop level (loss); the pickup level and r, which is "part of the over
+    /// run's own level" (over). A voltage has no over run, and nothing there
+    /// ever changes.
+    pub fn own_level(self, levels: &Levels, channel: usize) -> Option<(u16, u8)> {
+        match self {
+            Latch::Loss => Some((levels.drop[channel], 0)),
+            Latch::Over => {
+                let current = channel.checked_sub(FIRST_CURRENT)?;
+                Some((levels.pickup[current], levels.restraint[current]))
+            }
+        }
+    }
 }
 
 /// An accepted frame; its number is its place among the accepted frames.
@@ -35,6 +51,9 @@ pub struct AcceptedFrame {
     /// Its place in the list of calls.
     pub place: usize,
     pub enable: u8,
+    /// The levels in force: those of the latest accepted change before it, or
+    /// those that the relay was made with.
+    pub levels: Levels,
     /// Whether it has bit 6 on right after a frame with it off.
     pub is_rise: bool,
     pub is_counted: bool,
@@ -45,17 +64,37 @@ pub struct AcceptedFrame {
     pub second_z: [Exact; 6],
 }
 
+impl AcceptedFrame {
+    /// The drop or pickup level in force. A voltage has no pickup level.
+    pub fn level(&self, latch: Latch, channel: usize) -> i64 {
+        i64::from(match latch {
+            Latch::Loss => self.levels.drop[channel],
+            Latch::Over => self.levels.pickup[channel - FIRST_CURRENT],
+        })
+    }
+}
+
 #[derive(Clone, Copy, Debug)]
 pub struct AcceptedReset {
     pub place: usize,
     pub mask: u8,
 }
 
+#[derive(Clone, Copy, Debug)]
+pub struct AcceptedChange {
+    pub place: usize,
+    /// The levels in force right before it.
+    pub old: Levels,
+    pub new: Levels,
+}
+
 #[derive(Clone, Debug)]
 pub struct History {
+    /// What the relay was made with.
     pub settings: Settings,
     pub frames: Vec<AcceptedFrame>,
     pub resets: Vec<AcceptedReset>,
+    pub changes: Vec<AcceptedChange>,
 }
 
 impl History {
@@ -67,7 +106,9 @@ impl History {
         let mut enable_of_frame: Vec<u8> = Vec::new();
         let mut frames = Vec::new();
         let mut resets = Vec::new();
+        let mut changes: Vec<AcceptedChange> = Vec::new();
         for (place, call) in calls.iter().enumerate() {
+            let in_force = changes.last().map_or(settings.levels, |change| change.new);
             match *call {
                 Call::Frame { codes, enable } if frame_refusal(&codes, enable) == 0 => {
                     codes_of_frame.push(codes);
@@ -78,6 +119,7 @@ impl History {
                     frames.push(AcceptedFrame {
                         place,
                         enable,
+                        levels: in_force,
                         is_rise: is_rise(&enable_of_frame, n),
                         is_counted: is_counted(&enable_of_frame, n),
                         m: windows.map(|w| amplitude(&w)),
@@ -89,16 +131,20 @@ impl History {
                 Call::Reset { mask } if reset_refusal(mask) == 0 => {
                     resets.push(AcceptedReset { place, mask });
                 }
+                Call::Change(new) if levels_refusal(&new) == 0 => {
+                    changes.push(AcceptedChange { place, old: in_force, new });
+                }
                 _ => {}
             }
         }
-        History { settings, frames, resets }
+        History { settings, frames, resets, changes }
     }
 
     /// Whether the frames `first` and following make a full run: "16 (loss) or
     /// 4 (over) successive counted frames with the channel enabled, none
-    /// separated by an accepted reset naming it". Successive frames are next in
-    /// number.
+    /// separated by an accepted reset naming it", and "between the first and
+    /// last frame of a full run no change gave its own level another value".
+    /// Successive frames are next in number.
     pub fn is_full_run(&self, latch: Latch, channel: usize, first: usize) -> bool {
         let end = first + latch.full_run();
         if end > self.frames.len() {
@@ -108,24 +154,29 @@ impl History {
         let span = run[0].place..run[run.len() - 1].place;
         run.iter().all(|frame| frame.is_counted && is_enabled(frame.enable, channel))
             && !self.resets_naming(channel).any(|place| span.contains(&place))
+            && !self.changes_of(latch, channel).any(|place| span.contains(&place))
     }
 
     /// "A full run meets its level if m < drop (loss) or m ≥ pickup (over) in
-    /// each of its frames."
+    /// each of its frames." "The level it meets [...] is the one it ran under":
+    /// that in force in the frame.
     pub fn meets_level(&self, latch: Latch, channel: usize, first: usize) -> bool {
-        let level = self.level(latch, channel);
-        self.frames[first..first + latch.full_run()].iter().all(|frame| match latch {
-            Latch::Loss => frame.m[channel] < level,
-            Latch::Over => frame.m[channel] >= level,
+        self.frames[first..first + latch.full_run()].iter().all(|frame| {
+            let level = frame.level(latch, channel);
+            match latch {
+                Latch::Loss => frame.m[channel] < level,
+                Latch::Over => frame.m[channel] >= level,
+            }
         })
     }
 
     /// "The history adds that test to a full over run": in each of its frames
-    /// the restraint level lets the over run grow. A loss run has no such test.
+    /// the restraint level in force lets the over run grow. A loss run has no
+    /// such test.
     pub fn is_unrestrained(&self, latch: Latch, channel: usize, first: usize) -> bool {
         latch == Latch::Loss
             || self.frames[first..first + latch.full_run()].iter().all(|frame| {
-                let r = self.settings.restraint[channel - FIRST_CURRENT];
+                let r = frame.levels.restraint[channel - FIRST_CURRENT];
                 is_unrestrained(r, frame.m[channel], frame.second_m[channel])
             })
     }
@@ -143,11 +194,12 @@ impl History {
             let run = &self.frames[first..first + latch.full_run()];
             last_reset.map_or(true, |place| place < run[0].place) && run[run.len() - 1].place < calls
         };
-        (0..self.frames.len()).any(|first| {
-            self.is_full_run(latch, channel, first)
+        // The quick questions first: lists are long.
+        (0..(self.frames.len() + 1).saturating_sub(latch.full_run())).any(|first| {
+            lies_between(first)
                 && self.meets_level(latch, channel, first)
                 && self.is_unrestrained(latch, channel, first)
-                && lies_between(first)
+                && self.is_full_run(latch, channel, first)
         })
     }
 
@@ -180,12 +232,18 @@ impl History {
         (accepted - latest_rise.unwrap_or(0)).min(72)
     }
 
-    /// The drop or pickup level. A voltage has no pickup level.
-    pub fn level(&self, latch: Latch, channel: usize) -> i64 {
-        i64::from(match latch {
-            Latch::Loss => self.settings.drop[channel],
-            Latch::Over => self.settings.pickup[channel - FIRST_CURRENT],
-        })
+    /// The levels in force after the first `calls` calls: those of the latest
+    /// accepted change, or those that the relay was made with.
+    pub fn levels(&self, calls: usize) -> Levels {
+        let latest = self.changes.iter().filter(|change| change.place < calls).last();
+        latest.map_or(self.settings.levels, |change| change.new)
+    }
+
+    /// The places of the accepted changes that gave the run's own level another
+    /// value than it had right before. So a change and a change back are two.
+    pub fn changes_of(&self, latch: Latch, channel: usize) -> impl Iterator<Item = usize> + '_ {
+        let own = move |levels| latch.own_level(levels, channel);
+        self.changes.iter().filter(move |change| own(&change.old) != own(&change.new)).map(|change| change.place)
     }
 
     fn resets_naming(&self, channel: usize) -> impl Iterator<Item = usize> + '_ {

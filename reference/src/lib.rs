@@ -1,10 +1,11 @@
 //! Six-channel phasor relay: a second implementation of document 01 and of
-//! Papers 5 and 8 of document 02.
+//! Papers 5, 6 and 8 of document 02.
 //!
 //! It is written for reading and not for speed. Quotations are from document
 //! 01, those on harmonics and restraint from Paper 8, those on the remembered
-//! bit 6 from Paper 5. NOTES.md says how far it is independent of the proved
-//! one, and lists the decisions taken where the words could be read in two ways.
+//! bit 6 from Paper 5, those on changed levels from Paper 6. NOTES.md says how
+//! far it is independent of the proved one, and lists the decisions taken where
+//! the words could be read in two ways.
 
 pub mod amplitude;
 pub mod bench;
@@ -12,6 +13,7 @@ pub mod capture;
 pub mod cases;
 pub mod exact;
 pub mod history;
+pub mod levels;
 pub mod prng;
 pub mod relay;
 pub mod restraint;
@@ -22,7 +24,10 @@ pub use bench::{bench_text, played_text};
 pub use capture::{excerpt, excerpt_place, read, strongest, write, Outcome, Strongest};
 pub use exact::Exact;
 pub use history::{Call, History, Latch};
-pub use relay::{frame, fresh, is_sound, reset, Channel, Framed, Fresh, Relay, Reset, Settings};
+pub use relay::{
+    change, frame, fresh, is_sound, levels_refusal, reset, Changed, Channel, Framed, Fresh, Levels, Relay, Reset,
+    Settings,
+};
 
 /// The refusals by number. An accepted call's number is 0.
 pub mod refusal {

@@ -1,4 +1,5 @@
-//! Settings, channels and the relay; making one, frames and resets.
+//! Settings, channels and the relay; making one, frames, resets and changed
+//! levels.
 //!
 //! The structs hold any value, sound or not, because a relay handed in may be
 //! unsound and has to come back "as given".
@@ -15,14 +16,23 @@ pub const FULL_OVER_RUN: u8 = 4;
 /// Channels 0 to 2 are voltages, 3 to 5 currents.
 pub const FIRST_CURRENT: usize = 3;
 
+/// What a change hands in: the nine levels and, with Paper 8, the restraint
+/// levels beside them.
 #[derive(Clone, Copy, Debug, Default, PartialEq, Eq)]
-pub struct Settings {
+pub struct Levels {
     /// A drop level for each channel.
     pub drop: [u16; 6],
     /// A pickup level for each current: channels 3, 4, 5.
     pub pickup: [u16; 3],
     /// A restraint level for each current, "1 to 100 or 0 for off".
     pub restraint: [u8; 3],
+}
+
+/// What a relay is made with. Whatever a change must not alter stands beside
+/// the levels; there is nothing of that kind yet.
+#[derive(Clone, Copy, Debug, Default, PartialEq, Eq)]
+pub struct Settings {
+    pub levels: Levels,
 }
 
 #[derive(Clone, Copy, Debug, Default, PartialEq, Eq)]
@@ -65,16 +75,27 @@ pub struct Reset {
     pub relay: Relay,
 }
 
-/// The refusal number that settings alone decide: 1, then "20 for r above 100".
-pub fn settings_refusal(settings: &Settings) -> u8 {
+#[derive(Clone, Copy, Debug, PartialEq, Eq)]
+pub struct Changed {
+    pub number: u8,
+    pub relay: Relay,
+}
+
+/// The refusal number that levels alone decide: 1, then "20 for r above 100".
+pub fn levels_refusal(levels: &Levels) -> u8 {
     let in_range = |level: &u16| (1..=HIGHEST_LEVEL).contains(level);
-    if !settings.drop.iter().all(in_range) || !settings.pickup.iter().all(in_range) {
+    if !levels.drop.iter().all(in_range) || !levels.pickup.iter().all(in_range) {
         refusal::SETTING
-    } else if settings.restraint.iter().any(|&r| r > HIGHEST_RESTRAINT) {
+    } else if levels.restraint.iter().any(|&r| r > HIGHEST_RESTRAINT) {
         refusal::RESTRAINT
     } else {
         refusal::ACCEPTED
     }
+}
+
+/// The refusal number that settings alone decide.
+pub fn settings_refusal(settings: &Settings) -> u8 {
+    levels_refusal(&settings.levels)
 }
 
 pub fn settings_in_range(settings: &Settings) -> bool {
@@ -176,7 +197,7 @@ pub fn frame(relay: Relay, codes: [u16; 6], enable: u8) -> Framed {
     } else {
         // 3. Counts the runs.
         for c in 0..6 {
-            count_runs(&mut next.channels[c], &next.settings, c, amplitudes[c], is_enabled(enable, c));
+            count_runs(&mut next.channels[c], &next.settings.levels, c, amplitudes[c], is_enabled(enable, c));
         }
     }
 
@@ -199,18 +220,18 @@ pub fn frame(relay: Relay, codes: [u16; 6], enable: u8) -> Framed {
     Framed { number, relay: next, amplitudes, output }
 }
 
-fn count_runs(channel: &mut Channel, settings: &Settings, c: usize, m: u16, enabled: bool) {
+fn count_runs(channel: &mut Channel, levels: &Levels, c: usize, m: u16, enabled: bool) {
     if !enabled {
         channel.loss_run = 0;
         channel.over_run = 0;
         return;
     }
-    channel.loss_run = if m < settings.drop[c] { (channel.loss_run + 1).min(FULL_LOSS_RUN) } else { 0 };
+    channel.loss_run = if m < levels.drop[c] { (channel.loss_run + 1).min(FULL_LOSS_RUN) } else { 0 };
     if c >= FIRST_CURRENT {
         // The answer shows the fundamental only; the second harmonic is found here.
         let second = amplitude_of_order(&channel.samples, 2);
-        let unrestrained = is_unrestrained(settings.restraint[c - FIRST_CURRENT], i64::from(m), second);
-        let over = m >= settings.pickup[c - FIRST_CURRENT] && unrestrained;
+        let unrestrained = is_unrestrained(levels.restraint[c - FIRST_CURRENT], i64::from(m), second);
+        let over = m >= levels.pickup[c - FIRST_CURRENT] && unrestrained;
         channel.over_run = if over { (channel.over_run + 1).min(FULL_OVER_RUN) } else { 0 };
     }
 }
@@ -229,4 +250,29 @@ pub fn reset(relay: Relay, mask: u8) -> Reset {
         }
     }
     Reset { number, relay: next }
+}
+
+/// A change of levels: "refused: 2 and then 1, relay as given", and 20 after 1.
+/// "Windows, slot, age, latches and the remembered bit 6 carry over. A run
+/// carries over where its own level is equal; otherwise it becomes 0."
+pub fn change(relay: Relay, levels: Levels) -> Changed {
+    let number = if is_sound(&relay) { levels_refusal(&levels) } else { refusal::NOT_SOUND };
+    if number != refusal::ACCEPTED {
+        return Changed { number, relay };
+    }
+    let old = relay.settings.levels;
+    let mut next = relay;
+    next.settings.levels = levels;
+    for c in 0..6 {
+        if levels.drop[c] != old.drop[c] {
+            next.channels[c].loss_run = 0;
+        }
+    }
+    // r is "part of the over run's own level". A voltage has no over run.
+    for j in 0..3 {
+        if levels.pickup[j] != old.pickup[j] || levels.restraint[j] != old.restraint[j] {
+            next.channels[FIRST_CURRENT + j].over_run = 0;
+        }
+    }
+    Changed { number, relay: next }
 }

@@ -6,7 +6,10 @@ use crate::amplitude::{amplitude, amplitude_of_order, estimate, Window, COSINE};
 use crate::capture::{read, strongest, write};
 use crate::history::Call;
 use crate::prng::Prng;
-use crate::relay::{frame, fresh, reset, Channel, Relay, Settings, FIRST_CURRENT};
+use crate::relay::{
+    change, frame, fresh, reset, Channel, Levels, Relay, Settings, FIRST_CURRENT, FULL_AGE, HIGHEST_LEVEL,
+    HIGHEST_RESTRAINT,
+};
 
 /// What cells and bytes hold before a call, to see that the rest is untouched.
 pub const OLD: u8 = 0xEE;
@@ -25,14 +28,14 @@ impl Line {
         }
     }
 
-    fn settings(&mut self, settings: &Settings) {
-        self.put_all(&settings.drop);
-        self.put_all(&settings.pickup);
-        self.put_all(&settings.restraint);
+    fn levels(&mut self, levels: &Levels) {
+        self.put_all(&levels.drop);
+        self.put_all(&levels.pickup);
+        self.put_all(&levels.restraint);
     }
 
     fn relay(&mut self, relay: &Relay) {
-        self.settings(&relay.settings);
+        self.levels(&relay.settings.levels);
         self.put_all(&[relay.age, relay.slot, u8::from(relay.device_on)]);
         for channel in &relay.channels {
             self.put_all(&channel.samples);
@@ -58,23 +61,33 @@ fn restraint(prng: &mut Prng) -> u8 {
     }
 }
 
-fn settings(prng: &mut Prng) -> Settings {
-    let mut settings = Settings {
+fn levels(prng: &mut Prng) -> Levels {
+    let mut levels = Levels {
         drop: std::array::from_fn(|_| level(prng)),
         pickup: std::array::from_fn(|_| level(prng)),
         restraint: std::array::from_fn(|_| restraint(prng)),
     };
     if prng.once_in(8) {
-        settings.restraint[prng.below(3) as usize] = [101, 255][prng.below(2) as usize];
+        spoil_restraint(prng, &mut levels);
     }
     if prng.once_in(8) {
-        let wrong = [0, 10_701, 65_535][prng.below(3) as usize];
-        match prng.below(9) as usize {
-            c @ 0..=5 => settings.drop[c] = wrong,
-            c => settings.pickup[c - 6] = wrong,
-        }
+        spoil_level(prng, &mut levels);
     }
-    settings
+    levels
+}
+
+/// One of the nine levels out of range.
+fn spoil_level(prng: &mut Prng, levels: &mut Levels) {
+    let wrong = [0, 10_701, 65_535][prng.below(3) as usize];
+    match prng.below(9) as usize {
+        c @ 0..=5 => levels.drop[c] = wrong,
+        c => levels.pickup[c - 6] = wrong,
+    }
+}
+
+/// One of the restraint levels above 100.
+fn spoil_restraint(prng: &mut Prng, levels: &mut Levels) {
+    levels.restraint[prng.below(3) as usize] = [101, 255][prng.below(2) as usize];
 }
 
 /// Windows at restraint level 37: amplitudes 100 and 37, which is at equality and
@@ -103,7 +116,7 @@ fn window(prng: &mut Prng, spread: i64) -> Window {
 pub fn relay(prng: &mut Prng) -> Relay {
     let spread = prng.within(1, 512);
     let mut relay = Relay {
-        settings: settings(prng),
+        settings: Settings { levels: levels(prng) },
         age: if prng.once_in(4) { prng.within(0, 72) as u8 } else { 72 },
         slot: prng.below(8) as u8,
         device_on: !prng.once_in(3),
@@ -129,7 +142,7 @@ pub fn relay(prng: &mut Prng) -> Relay {
             3 => channel.over_latch = true,
             4 => relay.age = prng.within(73, 255) as u8,
             5 => relay.slot = prng.within(8, 255) as u8,
-            _ => relay.settings.drop[c] = 0,
+            _ => relay.settings.levels.drop[c] = 0,
         }
     }
     relay
@@ -154,13 +167,14 @@ pub fn text(lines: usize) -> String {
     let mut prng = Prng(7);
     let mut text = String::new();
     for _ in 0..lines {
-        let line = match prng.below(10) {
+        let line = match prng.below(11) {
             0 => fresh_line(&mut prng),
             1 => reset_line(&mut prng),
             2 => read_line(&mut prng),
             3 => write_line(&mut prng),
             4 => strongest_line(&mut prng),
             5 => estimate_line(&mut prng),
+            6 => change_line(&mut prng),
             _ => frame_line(&mut prng),
         };
         let numbers: Vec<String> = line.0.iter().map(i64::to_string).collect();
@@ -171,10 +185,10 @@ pub fn text(lines: usize) -> String {
 }
 
 fn fresh_line(prng: &mut Prng) -> Line {
-    let settings = settings(prng);
-    let answer = fresh(settings);
+    let levels = levels(prng);
+    let answer = fresh(Settings { levels });
     let mut line = Line(vec![1]);
-    line.settings(&settings);
+    line.levels(&levels);
     line.put(answer.number);
     line.relay(&answer.relay);
     line
@@ -200,8 +214,8 @@ pub fn frame_arguments(prng: &mut Prng) -> (Relay, [u16; 6], u8) {
         window[slot] = codes[FIRST_CURRENT + c] as i16 - 512;
         let (m1, m2) = (amplitude(&window), amplitude_of_order(&window, 2));
         if m1 > 0 && m2 < m1 {
-            relay.settings.restraint[c] = (100 * m2 / m1 + prng.within(0, 1)) as u8;
-            relay.settings.pickup[c] = prng.within(1, m1.min(10_700)) as u16;
+            relay.settings.levels.restraint[c] = (100 * m2 / m1 + prng.within(0, 1)) as u8;
+            relay.settings.levels.pickup[c] = prng.within(1, m1.min(10_700)) as u16;
         }
     }
     if prng.once_in(10) {
@@ -236,6 +250,51 @@ fn reset_line(prng: &mut Prng) -> Line {
     let mut line = Line(vec![3]);
     line.relay(&relay);
     line.put(mask);
+    line.put(answer.number);
+    line.relay(&answer.relay);
+    line
+}
+
+/// What a change is given: a relay and levels. The levels are the relay's own in
+/// many places: all the same, one off by one, or each the same or another. Then,
+/// now and then, a level is out of range, a restraint level above 100, or both.
+pub fn change_arguments(prng: &mut Prng) -> (Relay, Levels) {
+    let relay = relay(prng);
+    let mut new = relay.settings.levels;
+    match prng.below(8) {
+        0 => {}
+        1 | 2 | 3 => {
+            let up = prng.once_in(2);
+            let off_by_one = |level: u16| if up { level.saturating_add(1) } else { level.saturating_sub(1) };
+            match prng.below(12) as usize {
+                c @ 0..=5 => new.drop[c] = off_by_one(new.drop[c]),
+                c @ 6..=8 => new.pickup[c - 6] = off_by_one(new.pickup[c - 6]),
+                c => new.restraint[c - 9] = off_by_one(new.restraint[c - 9].into()).min(255) as u8,
+            }
+        }
+        _ => {
+            let other = levels(prng);
+            let mut mixed = |old: u16, new: u16| if prng.once_in(2) { old } else { new };
+            new.drop = std::array::from_fn(|c| mixed(new.drop[c], other.drop[c]));
+            new.pickup = std::array::from_fn(|c| mixed(new.pickup[c], other.pickup[c]));
+            new.restraint = std::array::from_fn(|c| mixed(new.restraint[c].into(), other.restraint[c].into()) as u8);
+        }
+    }
+    if prng.once_in(8) {
+        spoil_level(prng, &mut new);
+    }
+    if prng.once_in(8) {
+        spoil_restraint(prng, &mut new);
+    }
+    (relay, new)
+}
+
+fn change_line(prng: &mut Prng) -> Line {
+    let (relay, levels) = change_arguments(prng);
+    let answer = change(relay, levels);
+    let mut line = Line(vec![8]);
+    line.relay(&relay);
+    line.levels(&levels);
     line.put(answer.number);
     line.relay(&answer.relay);
     line
@@ -327,7 +386,7 @@ struct Switch {
 impl Switch {
     fn new(prng: &mut Prng) -> Switch {
         let mut switch = Switch { on: true, left: None };
-        if !prng.once_in(4) {
+        if !prng.once_in(3) {
             // Now and then the device is off in frame 0.
             switch.on = prng.once_in(6);
             switch.turn(prng);
@@ -342,7 +401,7 @@ impl Switch {
         self.left = Some(match (self.on, prng.below(8)) {
             (true, 0 | 1) => prng.within(1, 71),
             (true, 2) => prng.within(71, 77),
-            (true, _) => prng.within(80, 220),
+            (true, _) => prng.within(80, 400),
             (false, 0) => prng.within(50, 90),
             (false, 1 | 2 | 3) => 1,
             (false, _) => prng.within(1, 6),
@@ -366,26 +425,35 @@ impl Switch {
 /// A list of calls on a fresh relay at random, and settings that make one. The
 /// amplitudes are often near the settings. In most lists the device goes off and
 /// comes back, and refused frames, mostly with bit 6 the other way, and resets
-/// come between, more often where it changes.
+/// come between, more often where it changes. About one call in twenty is a
+/// change of levels. It comes mostly where runs are above 0, and the levels stay
+/// near the amplitudes. `RunsAtChanges` counts what the changes did: lists of
+/// 300,000 calls in all have more than 11,000 of each of its four kinds.
 pub fn list(prng: &mut Prng) -> (Settings, Vec<Call>) {
-    let level = |prng: &mut Prng| match prng.below(8) {
-        0 => prng.within(1, 4),
-        1 => prng.within(10_600, 10_700),
-        _ => prng.within(500, 6_000),
-    } as u16;
-    let settings = Settings {
-        drop: std::array::from_fn(|_| level(prng)),
-        pickup: std::array::from_fn(|_| level(prng)),
-        restraint: std::array::from_fn(|_| match prng.below(5) {
-            0 => 0,
-            1 => prng.within(1, 5) as u8,
-            2 => 100,
+    let levels = Levels {
+        drop: std::array::from_fn(|_| match prng.below(8) {
+            0 => prng.within(1, 4),
+            1 => prng.within(10_600, 10_700),
+            _ => prng.within(500, 6_000),
+        } as u16),
+        // Mostly low, so that there are over runs in spite of restraint.
+        pickup: std::array::from_fn(|_| match prng.below(16) {
+            0 | 1 => prng.within(1, 4),
+            2 => prng.within(10_600, 10_700),
+            3..=5 => prng.within(2_500, 6_000),
+            _ => prng.within(400, 2_500),
+        } as u16),
+        restraint: std::array::from_fn(|_| match prng.below(9) {
+            0 | 1 => 0,
+            2 => prng.within(1, 5) as u8,
+            3..=5 => 100,
             _ => prng.within(6, 60) as u8,
         }),
     };
+    let settings = Settings { levels };
     let enable_faults = prng.within(4, 60) as u64;
     let reset_share = prng.within(5, 80) as u64;
-    let length = prng.below(700) as usize;
+    let length = if prng.once_in(4) { prng.below(300) } else { prng.within(300, 900) as u64 } as usize;
     let mut switch = Switch::new(prng);
     let mut peaks = [200i64; 6];
     // The second harmonic, as a part of the peak in hundredths.
@@ -393,16 +461,22 @@ pub fn list(prng: &mut Prng) -> (Settings, Vec<Call>) {
     let mut phase = [0; 6];
     let mut frames = 0;
     let mut calls = Vec::new();
+    // A relay that plays the list, to see where changes find runs.
+    let mut relay = fresh(settings).relay;
     while calls.len() < length {
+        let done = calls.len();
         if prng.once_in(if switch.is_at_turn() { 3 } else { reset_share }) {
             let mask = if prng.once_in(4) { prng.below(256) } else { 1 << prng.below(6) };
             calls.push(Call::Reset { mask: mask as u8 });
+        }
+        if prng.once_in(if switch.is_at_turn() { 6 } else { change_share(&relay) }) {
+            calls.extend(changes(prng, &relay).into_iter().map(Call::Change));
         }
         for c in 0..6 {
             if prng.once_in(25) {
                 peaks[c] = prng.within(0, 450);
                 phase[c] = prng.below(8) as usize;
-                second[c] = if prng.once_in(3) { 0 } else { prng.within(0, 60) };
+                second[c] = if prng.once_in(2) { 0 } else { prng.within(0, 60) };
             }
         }
         let codes: [u16; 6] = std::array::from_fn(|c| {
@@ -417,8 +491,154 @@ pub fn list(prng: &mut Prng) -> (Settings, Vec<Call>) {
         let channels = if prng.once_in(enable_faults) { prng.below(64) as u8 } else { 0x3F };
         calls.push(Call::Frame { codes, enable: switch.next(prng) | channels });
         frames += 1;
+        for call in &calls[done..] {
+            relay = play(relay, call).0;
+        }
     }
     (settings, calls)
+}
+
+/// A call on a relay: the relay as it then is, and the number.
+pub fn play(relay: Relay, call: &Call) -> (Relay, u8) {
+    match *call {
+        Call::Frame { codes, enable } => {
+            let answer = frame(relay, codes, enable);
+            (answer.relay, answer.number)
+        }
+        Call::Reset { mask } => {
+            let answer = reset(relay, mask);
+            (answer.relay, answer.number)
+        }
+        Call::Change(levels) => {
+            let answer = change(relay, levels);
+            (answer.relay, answer.number)
+        }
+    }
+}
+
+/// A change comes once in so many frames: seldom where there are no runs, often
+/// where there are over runs, of which there are fewer than loss runs.
+fn change_share(relay: &Relay) -> u64 {
+    let over_runs = relay.channels.iter().filter(|channel| channel.over_run > 0).count();
+    match (relay.age < FULL_AGE, over_runs) {
+        (true, _) => 200,
+        (_, 0) => 50,
+        (_, 1) => 18,
+        (_, 2) => 6,
+        _ => 3,
+    }
+}
+
+/// The places of the twelve levels: six drops, three pickups, three restraints.
+const PLACES: usize = 12;
+
+/// One change, or two at once of which the second takes the first back. Refused
+/// ones are among them, with other levels moved too.
+fn changes(prng: &mut Prng, relay: &Relay) -> Vec<Levels> {
+    let old = relay.settings.levels;
+    let mut new = old;
+    // Which levels move: none, one, all of a kind as in summer, or some of all.
+    match prng.below(15) {
+        0 => {}
+        1..=3 => {
+            let place = prng.below(PLACES as u64) as usize;
+            move_level(prng, &mut new, place, relay);
+        }
+        4 | 5 => {
+            let places = [0..6, 6..9, 9..12][prng.below(3) as usize].clone();
+            for place in places {
+                move_level(prng, &mut new, place, relay);
+            }
+        }
+        _ => {
+            for place in 0..PLACES {
+                if prng.once_in(2) {
+                    move_level(prng, &mut new, place, relay);
+                }
+            }
+        }
+    }
+    match prng.below(10) {
+        // Refused by 1, by 20, or by 1 with both faults.
+        0 => {
+            let faults = prng.within(1, 3);
+            if faults & 1 != 0 {
+                spoil_level(prng, &mut new);
+            }
+            if faults & 2 != 0 {
+                spoil_restraint(prng, &mut new);
+            }
+            vec![new]
+        }
+        1 => vec![new, old],
+        _ => vec![new],
+    }
+}
+
+/// Moves one of the twelve levels: mostly by a little, now and then to the edge
+/// of what the channel's window has now, or near it.
+fn move_level(prng: &mut Prng, levels: &mut Levels, place: usize, relay: &Relay) {
+    let channel = if place < 6 { place } else { FIRST_CURRENT + place % 3 };
+    let window = &relay.channels[channel].samples;
+    let m = amplitude(window);
+    let little = prng.within(1, 3) * if prng.once_in(2) { 1 } else { -1 };
+    let way = prng.below(8);
+    // Near the amplitude is mostly on the side where the level is met.
+    let mut moved = |level: u16, met: i64| {
+        let moved = match way {
+            0 => m + prng.within(-1, 2),
+            1 => m + met * prng.within(-100, 600),
+            _ => i64::from(level) + little,
+        };
+        moved.clamp(1, HIGHEST_LEVEL.into()) as u16
+    };
+    match place {
+        0..=5 => levels.drop[place] = moved(levels.drop[place], 1),
+        6..=8 => levels.pickup[place - 6] = moved(levels.pickup[place - 6], -1),
+        _ => {
+            let r = &mut levels.restraint[place - 9];
+            let moved = match way {
+                0 => 100 * amplitude_of_order(window, 2) / m.max(1) + prng.within(0, 1),
+                1 => [0, 100][prng.below(2) as usize],
+                _ => i64::from(*r) + little,
+            };
+            *r = moved.clamp(0, HIGHEST_RESTRAINT.into()) as u8;
+        }
+    }
+}
+
+/// How many runs above 0 accepted changes kept, and how many they made 0. A test
+/// that compares two relays on lists counts here what its lists met.
+#[derive(Clone, Copy, Debug, Default, PartialEq, Eq)]
+pub struct RunsAtChanges {
+    pub loss_kept: u64,
+    pub loss_broken: u64,
+    pub over_kept: u64,
+    pub over_broken: u64,
+}
+
+impl RunsAtChanges {
+    /// Adds one accepted change, by the relay before and after it.
+    pub fn add_change(&mut self, before: &Relay, after: &Relay) {
+        for (before, after) in before.channels.iter().zip(&after.channels) {
+            self.loss_kept += u64::from(before.loss_run > 0 && after.loss_run > 0);
+            self.loss_broken += u64::from(before.loss_run > 0 && after.loss_run == 0);
+            self.over_kept += u64::from(before.over_run > 0 && after.over_run > 0);
+            self.over_broken += u64::from(before.over_run > 0 && after.over_run == 0);
+        }
+    }
+
+    /// Adds the accepted changes of a list of calls on a fresh relay.
+    pub fn add_list(&mut self, settings: Settings, calls: &[Call]) {
+        let mut relay = fresh(settings).relay;
+        for call in calls {
+            let (next, number) = play(relay, call);
+            if matches!(call, Call::Change(_)) && number == 0 {
+                self.add_change(&relay, &next);
+            }
+            relay = next;
+        }
+    }
 }
 
 /// A frame refused by 3 or 4, with bit 6 mostly other than `on`.

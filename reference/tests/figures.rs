@@ -40,7 +40,7 @@ fn starred_numbers() {
 
 /// The first frame, of 400, after which channel 3's over latch is on.
 fn first_over(pickup: u16) -> Option<usize> {
-    let settings = Settings { drop: [1; 6], pickup: [pickup, 10_700, 10_700], restraint: [0; 3] };
+    let settings = Settings { levels: Levels { drop: [1; 6], pickup: [pickup, 10_700, 10_700], restraint: [0; 3] } };
     let mut relay = fresh(settings).relay;
     (0..400).find(|n| {
         let mut codes = [512; 6];
@@ -60,7 +60,7 @@ fn steady_wave_on_channel_3() {
 
 #[test]
 fn code_512_throughout() {
-    let mut relay = fresh(Settings { drop: [1; 6], pickup: [10_700; 3], restraint: [0; 3] }).relay;
+    let mut relay = fresh(Settings { levels: Levels { drop: [1; 6], pickup: [10_700; 3], restraint: [0; 3] } }).relay;
     for n in 0..=100 {
         let answer = frame(relay, [512; 6], ALL_ON);
         relay = answer.relay;

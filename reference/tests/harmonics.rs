@@ -121,7 +121,7 @@ fn the_test_is_strict() {
 
 /// The over latch of a relay fed with a window in its slots, over and over.
 fn trips(window: &Window, pickup: u16, restraint: u8) -> bool {
-    let settings = Settings { drop: [1; 6], pickup: [pickup; 3], restraint: [restraint; 3] };
+    let settings = Settings { levels: Levels { drop: [1; 6], pickup: [pickup; 3], restraint: [restraint; 3] } };
     let mut relay = fresh(settings).relay;
     for n in 0..100 {
         let answer = frame(relay, [(512 + window[n % 8]) as u16; 6], 0x7F);
@@ -151,7 +151,7 @@ fn the_computed_pairs_in_a_relay() {
 /// Each current has its own level.
 #[test]
 fn each_current_has_its_own_level() {
-    let settings = Settings { drop: [1; 6], pickup: [100; 3], restraint: [37, 38, 0] };
+    let settings = Settings { levels: Levels { drop: [1; 6], pickup: [100; 3], restraint: [37, 38, 0] } };
     let mut relay = fresh(settings).relay;
     let mut output = 0;
     for n in 0..100 {
@@ -166,7 +166,7 @@ fn each_current_has_its_own_level() {
 /// below age 72 the over run stays.
 #[test]
 fn a_restrained_frame() {
-    let settings = Settings { drop: [10_700; 6], pickup: [100; 3], restraint: [37; 3] };
+    let settings = Settings { levels: Levels { drop: [10_700; 6], pickup: [100; 3], restraint: [37; 3] } };
     let mut relay = fresh(settings).relay;
     for channel in &mut relay.channels {
         channel.samples = EQUAL;
@@ -196,10 +196,10 @@ fn the_trace_meets_restraint() {
             continue;
         }
         for c in 3..6 {
-            let r = relay.settings.restraint[c - 3];
+            let r = relay.settings.levels.restraint[c - 3];
             let m1 = i64::from(answer.amplitudes[c]);
             let m2 = amplitude_of_order(&answer.relay.channels[c].samples, 2);
-            let over = m1 >= i64::from(relay.settings.pickup[c - 3]) && enable >> c & 1 == 1 && enable >= 64;
+            let over = m1 >= i64::from(relay.settings.levels.pickup[c - 3]) && enable >> c & 1 == 1 && enable >= 64;
             if over && r > 0 {
                 let free = is_unrestrained(r, m1, m2);
                 assert_eq!(answer.relay.channels[c].over_run > 0, free);

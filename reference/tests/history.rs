@@ -1,9 +1,10 @@
 //! Demand 3: random lists of calls, where the stepwise relay has to agree with
-//! the latch history read from the list, and with the age and the remembered bit
-//! that the list gives it.
+//! the latch history read from the list, and with the age, the remembered bit
+//! and the levels that the list gives it.
 
 use reference::prng::Prng;
-use reference::relay::{frame_refusal, is_device_on, reset_refusal};
+use reference::relay::{frame_refusal, is_device_on, is_enabled, is_unrestrained, reset_refusal};
+use reference::trace::RunsAtChanges;
 use reference::*;
 
 /// What the lists met, so that a test that saw nothing fails.
@@ -20,6 +21,34 @@ struct Seen {
     restrained: usize,
     clearly_met_but_restrained: usize,
     switch: SeenOfSwitch,
+    changes: SeenOfChanges,
+}
+
+/// What the lists met of changed levels.
+#[derive(Debug, Default)]
+struct SeenOfChanges {
+    accepted: usize,
+    refused: [usize; 2],
+    /// Changes to the levels in force.
+    same: usize,
+    runs: RunsAtChanges,
+    /// Latches that went on by a full run with an accepted change of other
+    /// levels in its midst, or with a refused one that would have broken it.
+    latched_across: [usize; 2],
+    latched_across_refused: [usize; 2],
+    /// Latches that went on under another own level than the relay was made with.
+    latched_under_new: [usize; 2],
+    /// Frames after which a latch is off though it would be on, had the changes
+    /// not separated a run; and those where the own level is the same in each
+    /// frame of that run: it was changed and changed back.
+    separated: [usize; 2],
+    changed_back: [usize; 2],
+    /// Full runs where the clear or the near margin of a run holds by the level
+    /// it ran under, but not by the one the relay was made with.
+    clear_by_new: [usize; 2],
+    near_by_new: [usize; 2],
+    /// Changes that left a latch on whose run they broke.
+    latch_outlived: [usize; 2],
 }
 
 /// What the lists met of the device switch. A rise is a frame with bit 6 on
@@ -79,7 +108,7 @@ fn check(settings: Settings, calls: &[Call], seen: &mut Seen) {
                     assert_eq!(answer.output, history.output(n));
                     // It found age 72 and does not settle.
                     assert_eq!(history.frames[n].is_counted, before.age == 72 && relay.age == 72);
-                    check_z_clauses(&history, &before, &relay, n, seen);
+                    check_z_clauses(&history, calls, &before, &relay, n, seen);
                     n += 1;
                 }
             }
@@ -94,6 +123,18 @@ fn check(settings: Settings, calls: &[Call], seen: &mut Seen) {
                     seen.cleared += 1;
                 }
             }
+            Call::Change(levels) => {
+                let answer = change(relay, levels);
+                assert_eq!(answer.number, levels_refusal(&levels));
+                relay = answer.relay;
+                match answer.number {
+                    0 => look_at_change(&before, &relay, &mut seen.changes),
+                    number => {
+                        assert_eq!(relay, before);
+                        seen.changes.refused[usize::from(number == 20)] += 1;
+                    }
+                }
+            }
         }
         for latch in [Latch::Loss, Latch::Over] {
             let by_history = std::array::from_fn(|c| history.is_on(latch, c, place + 1));
@@ -101,10 +142,36 @@ fn check(settings: Settings, calls: &[Call], seen: &mut Seen) {
         }
         assert_eq!(relay.device_on, history.device_on(place + 1), "after call {place}");
         assert_eq!(usize::from(relay.age), history.age(place + 1), "after call {place}");
+        assert_eq!(relay.settings.levels, history.levels(place + 1), "after call {place}");
     }
     assert_eq!(n, history.frames.len());
+    assert_eq!(history.levels(0), settings.levels);
     seen.frames += n;
     look_at_switch(&history, calls, &mut seen.switch);
+}
+
+/// An accepted change, which may alter levels and runs and nothing else.
+fn look_at_change(before: &Relay, after: &Relay, seen: &mut SeenOfChanges) {
+    let without = |relay: &Relay| {
+        let mut relay = Relay { settings: before.settings, ..*relay };
+        for channel in &mut relay.channels {
+            (channel.loss_run, channel.over_run) = (0, 0);
+        }
+        relay
+    };
+    assert_eq!(without(before), without(after));
+    seen.accepted += 1;
+    if before.settings == after.settings {
+        assert_eq!(before, after);
+        seen.same += 1;
+    }
+    seen.runs.add_change(before, after);
+    for (old, new) in before.channels.iter().zip(&after.channels) {
+        assert!(new.loss_run == old.loss_run || new.loss_run == 0);
+        assert!(new.over_run == old.over_run || new.over_run == 0);
+        seen.latch_outlived[0] += usize::from(old.loss_run == 16 && new.loss_run == 0 && new.loss_latch);
+        seen.latch_outlived[1] += usize::from(old.over_run == 4 && new.over_run == 0 && new.over_latch);
+    }
 }
 
 fn look_at_switch(history: &History, calls: &[Call], seen: &mut SeenOfSwitch) {
@@ -120,7 +187,7 @@ fn look_at_switch(history: &History, calls: &[Call], seen: &mut SeenOfSwitch) {
                 Call::Frame { codes, enable } => {
                     frame_refusal(&codes, enable) == number && is_device_on(enable) == device
                 }
-                Call::Reset { .. } => false,
+                Call::Reset { .. } | Call::Change(_) => false,
             })
         };
         let reset = between.iter().any(|call| matches!(call, Call::Reset { mask } if reset_refusal(*mask) == 0));
@@ -153,48 +220,100 @@ fn look_at_switch(history: &History, calls: &[Call], seen: &mut SeenOfSwitch) {
     }
 }
 
-/// "The clauses on Z", at accepted frame n. The clear margin has the test of
-/// restraint "as a further premise"; where an over latch went on, the run found
-/// there has it in each frame.
-fn check_z_clauses(history: &History, before: &Relay, after: &Relay, n: usize, seen: &mut Seen) {
+/// "The clauses on Z", at accepted frame n, with the margin measured from the
+/// level that the run ran under. The clear margin has the test of restraint "as
+/// a further premise"; where an over latch went on, the run found there has it in
+/// each frame.
+fn check_z_clauses(history: &History, calls: &[Call], before: &Relay, after: &Relay, n: usize, seen: &mut Seen) {
     for (index, latch) in [Latch::Loss, Latch::Over].into_iter().enumerate() {
         for c in if latch == Latch::Loss { 0..6 } else { 3..6 } {
-            let level = history.level(latch, c);
-            let first = (n + 1).checked_sub(latch.full_run());
-            let full_run = first.filter(|&first| history.is_full_run(latch, c, first));
-            let run_z = || history.frames[full_run.unwrap()..=n].iter().map(|f| f.z[c]);
             let (was_on, is_on) = (latches(before, latch)[c], latches(after, latch)[c]);
-            if full_run.is_some() {
-                let clearly_met = run_z().all(|z| match latch {
-                    Latch::Over => z.at_least(level + 2),
-                    Latch::Loss => z.below(level - 2),
-                });
-                let unrestrained = history.is_unrestrained(latch, c, full_run.unwrap());
-                if clearly_met && unrestrained {
-                    assert!(is_on);
-                    seen.z_clause[index] += 1;
+            let first = (n + 1).checked_sub(latch.full_run());
+            let Some(first) = first.filter(|&first| history.is_full_run(latch, c, first)) else {
+                assert!(was_on || !is_on);
+                if let (Some(first), false) = (first, is_on) {
+                    look_at_separated(history, latch, c, first, &mut seen.changes);
                 }
-                seen.clearly_met_but_restrained += usize::from(clearly_met && !unrestrained);
-                let met = history.meets_level(latch, c, full_run.unwrap());
-                seen.restrained += usize::from(met && !unrestrained);
+                continue;
+            };
+            let run = &history.frames[first..=n];
+            let own = |levels: &Levels| latch.own_level(levels, c);
+            assert!(run.iter().all(|frame| own(&frame.levels) == own(&run[0].levels)), "one own level");
+            let level = run[0].level(latch, c);
+            let made_with = i64::from(own(&history.settings.levels).unwrap().0);
+            let clear_of = |level: i64| {
+                run.iter().all(|frame| match latch {
+                    Latch::Over => frame.z[c].at_least(level + 2),
+                    Latch::Loss => frame.z[c].below(level - 2),
+                })
+            };
+            let near = |level: i64| {
+                run.iter().all(|frame| match latch {
+                    Latch::Over => frame.z[c].at_least(level - 2),
+                    Latch::Loss => frame.z[c].below(level + 2),
+                })
+            };
+            let clearly_met = clear_of(level);
+            let unrestrained = history.is_unrestrained(latch, c, first);
+            if clearly_met && unrestrained {
+                assert!(is_on);
+                seen.z_clause[index] += 1;
+                seen.changes.clear_by_new[index] += usize::from(!clear_of(made_with));
             }
+            seen.clearly_met_but_restrained += usize::from(clearly_met && !unrestrained);
+            seen.restrained += usize::from(history.meets_level(latch, c, first) && !unrestrained);
             if is_on && !was_on {
-                assert!(full_run.is_some());
-                assert!(run_z().all(|z| match latch {
-                    Latch::Over => z.at_least(level - 2),
-                    Latch::Loss => z.below(level + 2),
-                }));
-                assert!(history.is_unrestrained(latch, c, full_run.unwrap()));
+                assert!(near(level));
+                assert!(unrestrained);
                 seen.latched[index] += 1;
                 if history.frames[..n].iter().any(|frame| frame.is_rise) {
                     seen.switch.latched_after_a_rise[index] += 1;
                 }
-                if latch == Latch::Over && history.settings.restraint[c - 3] > 0 {
+                if latch == Latch::Over && run[0].levels.restraint[c - 3] > 0 {
                     seen.latched_under_restraint += 1;
                 }
+                let changes = &mut seen.changes;
+                changes.near_by_new[index] += usize::from(!near(made_with));
+                changes.latched_under_new[index] += usize::from(own(&run[0].levels) != own(&history.settings.levels));
+                let (mut across, mut across_refused) = (false, false);
+                for call in &calls[run[0].place..run[run.len() - 1].place] {
+                    if let Call::Change(levels) = call {
+                        let accepted = levels_refusal(levels) == 0;
+                        across |= accepted;
+                        across_refused |= !accepted && own(levels) != own(&run[0].levels);
+                    }
+                }
+                changes.latched_across[index] += usize::from(across);
+                changes.latched_across_refused[index] += usize::from(across_refused);
             }
         }
     }
+}
+
+/// No full run, and the latch is off. Were it on if changes separated nothing?
+/// Then each frame from `first` on is counted, enabled and meets the level that
+/// is in force in it, and no reset separates them.
+fn look_at_separated(history: &History, latch: Latch, c: usize, first: usize, seen: &mut SeenOfChanges) {
+    let run = &history.frames[first..first + latch.full_run()];
+    let span = run[0].place..run[run.len() - 1].place;
+    let reset = history.resets.iter().any(|reset| reset.mask >> c & 1 == 1 && span.contains(&reset.place));
+    let counts = |frame: &history::AcceptedFrame| frame.is_counted && is_enabled(frame.enable, c);
+    if reset || !run.iter().all(counts) || !history.meets_level(latch, c, first) {
+        return;
+    }
+    let restrained = |frame: &history::AcceptedFrame| {
+        latch == Latch::Over && !is_unrestrained(frame.levels.restraint[c - 3], frame.m[c], frame.second_m[c])
+    };
+    if run.iter().any(restrained) {
+        return;
+    }
+    // Only a change of the own level is left to separate them.
+    let separating = history.changes_of(latch, c).filter(|place| span.contains(place)).count();
+    assert!(separating > 0);
+    let index = usize::from(latch == Latch::Over);
+    seen.separated[index] += 1;
+    let own = |frame: &history::AcceptedFrame| latch.own_level(&frame.levels, c);
+    seen.changed_back[index] += usize::from(run.iter().all(|frame| own(frame) == own(&run[0])));
 }
 
 #[test]
@@ -229,6 +348,19 @@ fn stepwise_latches_equal_the_history() {
     assert!(switch.refused_off_among_on.iter().all(|&count| count > 200));
     assert!(switch.refused_on_among_off > 500 && switch.refused_on_before_a_rise > 80);
     assert!(switch.reset_before_a_rise > 80);
+    let changes = seen.changes;
+    println!("{changes:?}");
+    assert!(changes.accepted > 5000 && changes.same > 300 && changes.refused.iter().all(|&count| count > 100));
+    let RunsAtChanges { loss_kept, loss_broken, over_kept, over_broken } = changes.runs;
+    assert!([loss_kept, loss_broken, over_kept, over_broken].iter().all(|&count| count > 3000));
+    assert!(changes.latched_across.iter().all(|&count| count > 200));
+    assert!(changes.latched_across_refused.iter().all(|&count| count > 20));
+    assert!(changes.latched_under_new.iter().all(|&count| count > 800));
+    assert!(changes.separated.iter().all(|&count| count > 400));
+    assert!(changes.changed_back.iter().all(|&count| count > 30));
+    assert!(changes.clear_by_new.iter().all(|&count| count > 2000));
+    assert!(changes.near_by_new.iter().all(|&count| count > 80));
+    assert!(changes.latch_outlived.iter().all(|&count| count > 1000));
 }
 
 /// Every accepted case of up to 500 frames, as calls on the bench program's relay.
@@ -254,7 +386,7 @@ fn the_cases_equal_the_history() {
 /// 72 and on the loss run restraint does nothing.
 #[test]
 fn a_restrained_frame_starts_the_over_run_again() {
-    let settings = Settings { drop: [1; 6], pickup: [400; 3], restraint: [15; 3] };
+    let settings = Settings { levels: Levels { drop: [1; 6], pickup: [400; 3], restraint: [15; 3] } };
     let wave = [100, 71, 0, -71, -100, -71, 0, 71];
     let frame_of = |n: usize, kick: i16| Call::Frame { codes: [(512 + wave[n % 8] + kick) as u16; 6], enable: 0x7F };
     let mut seen = Seen::default();
@@ -279,7 +411,7 @@ fn a_restrained_frame_starts_the_over_run_again() {
 #[test]
 fn what_separates_a_run() {
     let quiet = Call::Frame { codes: [512; 6], enable: 0x7F };
-    let settings = Settings { drop: [1; 6], pickup: [10_700; 3], restraint: [0; 3] };
+    let settings = Settings { levels: Levels { drop: [1; 6], pickup: [10_700; 3], restraint: [0; 3] } };
     let mut seen = Seen::default();
     let mut latched_at = |between: Call| {
         let mut calls = vec![quiet; 80];
@@ -298,4 +430,97 @@ fn what_separates_a_run() {
     assert_eq!(latched_at(Call::Frame { codes: [512; 6], enable: 0xFF }), Some(89));
     // A counted frame with the channel not enabled does: 9 frames are lost.
     assert_eq!(latched_at(Call::Frame { codes: [512; 6], enable: 0x7B }), Some(97));
+}
+
+/// "Between the first and last frame of a full run no change gave its own level
+/// another value": what each change does to a loss run of channel 2 and to an
+/// over run of channel 4 that are both under way.
+#[test]
+fn what_change_separates_a_run() {
+    // Still voltages are below drop 1; the wave on the currents is at pickup 1603.
+    let wave = [100, 71, 0, -71, -100, -71, 0, 71];
+    let frame_of = |n: usize| {
+        let current = (512 + wave[n % 8]) as u16;
+        Call::Frame { codes: [512, 512, 512, current, current, current], enable: 0x7F }
+    };
+    let base = levels::BASE;
+    let settings = Settings { levels: base };
+    let mut seen = Seen::default();
+    // The changes come right before frame `before`; answered are the frames in
+    // which the two latches go on.
+    let mut latched_at = |before: usize, changes: &[Levels]| {
+        let mut calls: Vec<Call> = (0..120).map(frame_of).collect();
+        calls.splice(before..before, changes.iter().copied().map(Call::Change));
+        check(settings, &calls, &mut seen);
+        let history = History::of(settings, &calls);
+        [(Latch::Loss, 2), (Latch::Over, 4)].map(|(latch, c)| {
+            history.frames.iter().position(|frame| history.is_on(latch, c, frame.place + 1))
+        })
+    };
+    let drop = |c: usize, level| {
+        let mut levels = base;
+        levels.drop[c] = level;
+        levels
+    };
+    let pickup = |c: usize, level| {
+        let mut levels = base;
+        levels.pickup[c - 3] = level;
+        levels
+    };
+    let restraint = |c: usize, r| {
+        let mut levels = base;
+        levels.restraint[c - 3] = r;
+        levels
+    };
+    let unchanged = [Some(87), Some(75)];
+    assert_eq!(latched_at(0, &[]), unchanged);
+    for before in 0..=120 {
+        // Where a change that is met again separates: between the first and the last frame.
+        let loss = if (73..=87).contains(&before) { before + 15 } else { 87 };
+        let over = if (73..=75).contains(&before) { before + 3 } else { 75 };
+        assert_eq!(latched_at(before, &[base]), unchanged);
+        assert_eq!(latched_at(before, &[drop(2, 2)]), [Some(loss), Some(75)]);
+        assert_eq!(latched_at(before, &[drop(2, 2), base]), [Some(loss), Some(75)]);
+        assert_eq!(latched_at(before, &[pickup(4, 1602)]), [Some(87), Some(over)]);
+        assert_eq!(latched_at(before, &[pickup(4, 1604), base]), [Some(87), Some(over)]);
+        assert_eq!(latched_at(before, &[restraint(4, 100)]), [Some(87), Some(over)]);
+        assert_eq!(latched_at(before, &[restraint(4, 1), base]), [Some(87), Some(over)]);
+        // Another value that is not met from then on.
+        let never = |first: usize| if before > first { Some(first) } else { None };
+        assert_eq!(latched_at(before, &[pickup(4, 1604)]), [Some(87), never(75)]);
+        // Other channels' levels, and the other kind of this channel's.
+        assert_eq!(latched_at(before, &[drop(4, 2), pickup(3, 9), restraint(5, 9)]), unchanged);
+        // Refused: by 1, by 20, by 1 with both. They leave the levels too.
+        let both = Levels { drop: [0; 6], restraint: [101; 3], ..base };
+        assert_eq!(latched_at(before, &[pickup(4, 0), drop(2, 10_701), restraint(4, 101), both]), unchanged);
+        let raised_and_spoilt = Levels { drop: [2; 6], pickup: [1604; 3], restraint: [1, 1, 101] };
+        assert_eq!(latched_at(before, &[raised_and_spoilt]), unchanged);
+    }
+    // A level that is met from the change on only: the wave of 1603 on channel 3 is below drop 1604
+    // and not below 1603.
+    let low = Levels { drop: [1603; 6], ..base };
+    let mut calls: Vec<Call> = (0..120).map(frame_of).collect();
+    calls.insert(90, Call::Change(Levels { drop: [1604; 6], ..base }));
+    let history = History::of(Settings { levels: low }, &calls);
+    check(Settings { levels: low }, &calls, &mut seen);
+    let on = history.frames.iter().position(|frame| history.is_on(Latch::Loss, 3, frame.place + 1));
+    assert_eq!(on, Some(105), "frames 90 to 105");
+}
+
+/// The latch stays on though no run would meet the new level, and a reset clears
+/// it for good.
+#[test]
+fn latches_outlive_a_change() {
+    let wave = [100, 71, 0, -71, -100, -71, 0, 71];
+    let frame_of = |n: usize| Call::Frame { codes: [(512 + wave[n % 8]) as u16; 6], enable: 0x7F };
+    let settings = Settings { levels: levels::BASE };
+    let mut calls: Vec<Call> = (0..160).map(frame_of).collect();
+    calls.insert(130, Call::Reset { mask: 0x10 });
+    calls.insert(76, Call::Change(Levels { pickup: [1604; 3], ..levels::BASE }));
+    check(settings, &calls, &mut Seen::default());
+    let history = History::of(settings, &calls);
+    let outputs: Vec<u8> = (0..160).map(|n| history.output(n)).collect();
+    assert!((0..160).all(|n| outputs[n] == [0x00, 0x38, 0x28][usize::from(n >= 75) + usize::from(n >= 130)]));
+    assert_eq!(history.levels(76).pickup, [1603; 3]);
+    assert_eq!(history.levels(77).pickup, [1604; 3]);
 }

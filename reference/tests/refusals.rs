@@ -25,8 +25,8 @@ fn refusal_1_settings() {
         for (level, number) in [(0, 1), (1, 0), (10_700, 0), (10_701, 1), (u16::MAX, 1)] {
             let mut settings = GOOD;
             match place {
-                0..=5 => settings.drop[place] = level,
-                _ => settings.pickup[place - 6] = level,
+                0..=5 => settings.levels.drop[place] = level,
+                _ => settings.levels.pickup[place - 6] = level,
             }
             assert_eq!(fresh(settings), made(settings, number));
         }
@@ -38,19 +38,21 @@ fn refusal_1_settings() {
 #[test]
 fn the_all_zero_relay_remembers_off() {
     assert!(fresh(GOOD).relay.device_on);
-    for settings in [Settings { drop: [0; 6], ..GOOD }, Settings { restraint: [101; 3], ..GOOD }] {
-        let relay = fresh(settings).relay;
+    for levels in [Levels { drop: [0; 6], ..GOOD.levels }, Levels { restraint: [101; 3], ..GOOD.levels }] {
+        let relay = fresh(Settings { levels }).relay;
         assert_eq!(relay, Relay::default());
         assert!(!relay.device_on);
         for enable in [0x7F, 0x3F] {
             assert_eq!(frame(relay, [512; 6], enable), Framed { number: 2, relay, amplitudes: [0; 6], output: 0 });
         }
         assert_eq!(reset(relay, 0x3F), Reset { number: 2, relay });
+        // Good levels do not heal it.
+        assert_eq!(change(relay, GOOD.levels), Changed { number: 2, relay });
     }
 }
 
 /// Every way of being unsound: the relay comes back as given, and 2 comes
-/// before 3, 4 and 5.
+/// before 1, 3, 4, 5 and 20.
 #[test]
 fn refusal_2_soundness() {
     let mut unsound: Vec<Relay> = Vec::new();
@@ -65,8 +67,8 @@ fn refusal_2_soundness() {
     for c in 0..6 {
         spoil(&|r| r.channels[c].loss_run = 17);
         spoil(&|r| r.channels[c].over_run = 5);
-        spoil(&|r| r.settings.drop[c] = 0);
-        spoil(&|r| r.settings.drop[c] = 10_701);
+        spoil(&|r| r.settings.levels.drop[c] = 0);
+        spoil(&|r| r.settings.levels.drop[c] = 10_701);
         for slot in 0..8 {
             spoil(&|r| r.channels[c].samples[slot] = -513);
             spoil(&|r| r.channels[c].samples[slot] = 512);
@@ -75,10 +77,10 @@ fn refusal_2_soundness() {
     for c in 0..3 {
         spoil(&|r| r.channels[c].over_run = 1);
         spoil(&|r| r.channels[c].over_latch = true);
-        spoil(&|r| r.settings.pickup[c] = 0);
-        spoil(&|r| r.settings.pickup[c] = 10_701);
-        spoil(&|r| r.settings.restraint[c] = 101);
-        spoil(&|r| r.settings.restraint[c] = 255);
+        spoil(&|r| r.settings.levels.pickup[c] = 0);
+        spoil(&|r| r.settings.levels.pickup[c] = 10_701);
+        spoil(&|r| r.settings.levels.restraint[c] = 101);
+        spoil(&|r| r.settings.levels.restraint[c] = 255);
     }
     let with_either_bit = |relay| [true, false].map(|device_on| Relay { device_on, ..relay });
     for relay in unsound.into_iter().flat_map(with_either_bit) {
@@ -88,6 +90,10 @@ fn refusal_2_soundness() {
         }
         for mask in [0, 0x3F, 0xFF] {
             assert_eq!(reset(relay, mask), Reset { number: 2, relay });
+        }
+        let bad = [Levels { drop: [0; 6], ..GOOD.levels }, Levels { restraint: [101; 3], ..GOOD.levels }];
+        for levels in [GOOD.levels, relay.settings.levels, bad[0], bad[1], Levels::default()] {
+            assert_eq!(change(relay, levels), Changed { number: 2, relay });
         }
     }
 }
@@ -99,12 +105,12 @@ fn sound_at_the_ends() {
     for c in 0..6 {
         relay.channels[c].loss_run = 16;
         relay.channels[c].samples = [-512, 511, -512, 511, 0, 0, 511, -512];
-        relay.settings.drop[c] = if c % 2 == 0 { 1 } else { 10_700 };
+        relay.settings.levels.drop[c] = if c % 2 == 0 { 1 } else { 10_700 };
     }
     for c in 3..6 {
         relay.channels[c].over_run = 4;
         relay.channels[c].over_latch = true;
-        relay.settings.restraint[c - 3] = 100;
+        relay.settings.levels.restraint[c - 3] = 100;
     }
     assert!(is_sound(&relay));
     let answer = frame(relay, [0, 1023, 512, 0, 1023, 512], 0x7F);
@@ -300,10 +306,10 @@ fn refusal_20_restraint() {
     for place in 0..3 {
         for r in 0..=255 {
             let mut settings = GOOD;
-            settings.restraint[place] = r;
+            settings.levels.restraint[place] = r;
             let number = if r > 100 { 20 } else { 0 };
             assert_eq!(fresh(settings), made(settings, number));
-            settings.drop[5] = 0;
+            settings.levels.drop[5] = 0;
             assert_eq!(fresh(settings), made(settings, 1), "1 before 20");
         }
     }

@@ -8,7 +8,7 @@ const ON: u8 = 0x7F;
 const OFF: u8 = 0x3F;
 
 /// Every frame is below drop and none is over pickup: the loss runs count frames.
-const COUNTING: Settings = Settings { drop: [10_700; 6], pickup: [10_700; 3], restraint: [0; 3] };
+const COUNTING: Settings = Settings { levels: Levels { drop: [10_700; 6], pickup: [10_700; 3], restraint: [0; 3] } };
 
 fn next(relay: Relay, enable: u8) -> Relay {
     let answer = frame(relay, [512; 6], enable);

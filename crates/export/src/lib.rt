@@ -3,7 +3,7 @@
 // pass by value and a part of a slice does not come back: a struct that holds the array, and start and length, stand
 // in for them.
 ghost use mathlib.Core.Path.{_≡_};
-ghost use Rattle.relay.specs.Relay.{freshOf, frameOf, resetOf};
+ghost use Rattle.relay.specs.Relay.{freshOf, frameOf, resetOf, changeOf};
 ghost use Rattle.phasor.specs.Estimate.{estimateOf};
 ghost use Rattle.refusals.specs.Outcomes.{Answered};
 ghost use Rattle.reader.specs.Reading.{readOf};
@@ -15,8 +15,10 @@ use cells::Part;
 use cells::StrongestWindow;
 use phasor::EstimateAnswer;
 use refusals::Answer;
+use relay::ChangeAnswer;
 use relay::FrameAnswer;
 use relay::FreshAnswer;
+use relay::Levels;
 use relay::Relay;
 use relay::ResetAnswer;
 use relay::Settings;
@@ -56,6 +58,14 @@ pub extern "C" fn p6k_reset(relay: Relay, mask: u8) -> ResetAnswer
     ensures { λ r. ⌜ r ≡ resetOf relay mask ⌝ }
 {
     relay.reset(mask)
+}
+
+// New levels, all of them, while the relay goes on.
+#[no_mangle]
+pub extern "C" fn p6k_change(relay: Relay, levels: Levels) -> ChangeAnswer
+    ensures { λ r. ⌜ r ≡ changeOf relay levels ⌝ }
+{
+    relay.change(levels)
 }
 
 // The estimate of one window for an order: 1 for the fundamental, 2 or 3 for a harmonic.

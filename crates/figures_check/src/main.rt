@@ -3,6 +3,7 @@
 use frames::bits::bit;
 use libc::STDOUT_FILENO;
 use relay::FrameAnswer;
+use relay::Levels;
 use relay::Relay;
 use relay::Settings;
 
@@ -58,11 +59,12 @@ fn codes_in(n: u64, waving: u8, rest: u16) -> [u16; 6] {
 
 // A relay with equal drop levels and equal pickup levels.
 fn made(drop: u16, pickup: u16) -> Relay {
-    let answer = Relay::fresh(Settings {
+    let levels = Levels {
         drop: [drop; 6],
         pickup: [pickup; 3],
         restraint: [0; 3],
-    });
+    };
+    let answer = Relay::fresh(Settings { levels: levels });
     answer.relay
 }
 

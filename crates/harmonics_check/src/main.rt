@@ -3,6 +3,7 @@
 // than before, and the sum of all that was answered. The stored output was made by a second implementation.
 ghost use Prim.Native.Nat.{_<_, _^_};
 use libc::STDOUT_FILENO;
+use relay::Levels;
 use relay::Relay;
 use relay::Settings;
 
@@ -253,14 +254,12 @@ fn play_setting(k: u8, seed: u32) -> u32 {
     show_number(b" ", restraint[1] as u32);
     show_number(b" ", restraint[2] as u32);
     io::write_all(STDOUT_FILENO, b"\n");
-    play_frames(
-        Settings {
-            drop: [1 + drawn(one) % 300; 6],
-            pickup: [pickup(two), pickup(three), pickup(four)],
-            restraint: restraint,
-        },
-        four,
-    )
+    let levels = Levels {
+        drop: [1 + drawn(one) % 300; 6],
+        pickup: [pickup(two), pickup(three), pickup(four)],
+        restraint: restraint,
+    };
+    play_frames(Settings { levels: levels }, four)
 }
 
 // Each setting goes on where the generator stands.

@@ -2,6 +2,7 @@
 -- these words. Rests on the laws of the relay's definitions.
 use Prim.Native.Nat.{ℕ, _≤_, _<_}
 use mathlib.Core.Path.{_≡_, refl, sym, ap, ap₂, _∙_, fun-ext}
+use mathlib.Core.Logic.{_↔_}
 use mathlib.Core.Bool.{Bool, true, false, _&&_, _||_, not, cond}
 use mathlib.Core.List.{List}
 use lib.Dec.{leb, leb·suc-suc}
@@ -11,14 +12,17 @@ use Rattle.lists.specs.Each.{every}
 use Rattle.lists.proofs.Each.{and-true, and-left, and-right, every-at, every-true}
 use Rattle.frames.specs.Bits.{bitOf}
 use Rattle.frames.specs.Codes.{codesInRange}
+use Rattle.relay.specs.declared.Levels.{Levels}
 use Rattle.relay.specs.declared.Settings.{Settings}
 use Rattle.relay.specs.declared.Relay.{Relay}
-use Rattle.relay.specs.Settings.{levelInRange, levelsInRange, levelsSound, settingsSound, dropsSound, pickupsSound, restraintInRange, restraintsSound}
+use Rattle.relay.specs.Settings.{levelInRange, levelsInRange, nineSound, settingsSound, dropsSound, pickupsSound, restraintInRange, restraintsSound}
 use Rattle.relay.specs.Sound.{soundOf}
 use Rattle.relay.specs.Relay.{acceptedFrame, refusedFrame, inputRefusal, frameOf, acceptedReset, refusedReset, maskRefusal, resetOf}
+use Rattle.relay.specs.Relay.{levelRefusal, acceptedChange, refusedChange, changeOf}
 use Rattle.relay.proofs.Sound.{input-codes}
 use Rattle.relay.proofs.Laws as laws
-use Rattle.history.specs.Calls.{frameRefusedBy, resetRefusedBy}
+use Rattle.relay.proofs.Changes as changes
+use Rattle.history.specs.Calls.{frameRefusedBy, resetRefusedBy, changeRefusedBy}
 use Rattle.history.specs.Demand.{AcceptedSettings}
 
 -- ---- the refusals
@@ -36,6 +40,10 @@ frame-refusal codes enable =
 reset-refusal : (mask : ℕ) → maskRefusal mask ≡ resetRefusedBy mask
 unfolding maskRefusal resetRefusedBy
 reset-refusal mask = turned (bitOf mask 6 || bitOf mask 7) 5
+
+pub change-refusal : (new : Levels) → levelRefusal new ≡ changeRefusedBy new
+unfolding levelRefusal changeRefusedBy dropsSound pickupsSound restraintsSound
+change-refusal new = refl
 
 -- ---- the calls, on a sound relay
 
@@ -59,6 +67,14 @@ pub reset-refused : (r : Relay) (mask : ℕ) → soundOf r ≡ true → ¬ (rese
     → resetOf r mask ≡ record { relay = r; refusal = resetRefusedBy mask }
 unfolding refusedReset
 reset-refused r mask s e = laws.reset-refused r mask s (λ q. e (sym (reset-refusal mask) ∙ q)) ∙ ap (refusedReset r) (reset-refusal mask)
+
+pub change-accepted : (r : Relay) (new : Levels) → soundOf r ≡ true → changeRefusedBy new ≡ 0 → changeOf r new ≡ acceptedChange r new
+change-accepted r new s e = changes.change-accepted r new s (change-refusal new ∙ e)
+
+pub change-refused : (r : Relay) (new : Levels) → soundOf r ≡ true → ¬ (changeRefusedBy new ≡ 0)
+    → changeOf r new ≡ record { relay = r; refusal = changeRefusedBy new }
+unfolding refusedChange
+change-refused r new s e = changes.change-refused r new s (λ q. e (sym (change-refusal new) ∙ q)) ∙ ap (refusedChange r) (change-refusal new)
 
 -- ---- the settings
 
@@ -87,15 +103,33 @@ say-restraints restraint s = every-true 3 (restraintInRange restraint) (λ k h. 
 pub settings-sound : (settings : Settings) → AcceptedSettings settings → settingsSound settings ≡ true
 unfolding dropsSound pickupsSound
 settings-sound settings ok =
-    and-true _ _ (and-true _ _ (says-range 6 (settings .drop) (ok .drops)) (says-range 3 (settings .pickup) (ok .pickups)))
-    (say-restraints (settings .restraint) (ok .restraints))
+    and-true _ _ (and-true _ _ (says-range 6 (settings .levels .drop) (ok .drops)) (says-range 3 (settings .levels .pickup) (ok .pickups)))
+    (say-restraints (settings .levels .restraint) (ok .restraints))
 
 pub settings-accepted : (settings : Settings) → settingsSound settings ≡ true → AcceptedSettings settings
 unfolding dropsSound pickupsSound
 settings-accepted settings e =
-    let nine : levelsSound settings ≡ true = and-left (levelsSound settings) _ e in
+    let l : Levels = settings .levels in
+    let nine : nineSound l ≡ true = and-left (nineSound l) _ e in
     record {
-      drops = range-says 6 (settings .drop) (and-left (dropsSound (settings .drop)) _ nine);
-      pickups = range-says 3 (settings .pickup) (and-right (dropsSound (settings .drop)) _ nine);
-      restraints = restraints-say (settings .restraint) (and-right (levelsSound settings) _ e);
+      drops = range-says 6 (l .drop) (and-left (dropsSound (l .drop)) _ nine);
+      pickups = range-says 3 (l .pickup) (and-right (dropsSound (l .drop)) _ nine);
+      restraints = restraints-say (l .restraint) (and-right (nineSound l) _ e);
     }
+
+-- the levels that a change is accepted with are those that a relay is made with
+levels-settings : (settings : Settings) → changeRefusedBy (settings .levels) ≡ 0 → AcceptedSettings settings
+unfolding levelRefusal
+levels-settings settings e =
+    settings-accepted settings
+    (laws.two-checks (nineSound (settings .levels)) (restraintsSound (settings .levels .restraint)) (change-refusal (settings .levels) ∙ e))
+
+settings-levels : (settings : Settings) → AcceptedSettings settings → changeRefusedBy (settings .levels) ≡ 0
+unfolding levelRefusal
+settings-levels settings ok =
+    let l : Levels = settings .levels in
+    let sound : settingsSound settings ≡ true = settings-sound settings ok in
+    sym (change-refusal l) ∙ rw (and-left (nineSound l) (restraintsSound (l .restraint)) sound, and-right (nineSound l) (restraintsSound (l .restraint)) sound)
+
+pub same-levels : (settings : Settings) → AcceptedSettings settings ↔ (changeRefusedBy (settings .levels) ≡ 0)
+same-levels settings = (settings-levels settings, levels-settings settings)

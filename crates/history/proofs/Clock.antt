@@ -12,9 +12,9 @@ use borrow.Author.Tests.{ltb-true, ltb-false}
 use Rattle.relay.specs.declared.Relay.{Relay}
 use Rattle.relay.specs.Settings.{settled}
 use Rattle.relay.specs.Relay.{foundBy, ageAfter, slotAfter}
-use Rattle.history.specs.History.{Input, Event, sampled, cleared, inputs, frames, inputAt, noInput, Counted}
+use Rattle.history.specs.History.{Input, Event, sampled, inputs, frames, inputAt, noInput, Counted}
 use Rattle.history.specs.Settling.{latestBit, sinceRise}
-use Rattle.history.proofs.History.{_▷_, frames-sampled, inputs-cleared, input-append, input-last}
+use Rattle.history.proofs.History.{_▷_, frames-sampled, inputs-other, input-append, input-last}
 use Rattle.history.proofs.Tests.{holds, is-true}
 use Rattle.history.proofs.Settling.{counted-same, latest-same, since-same, ageAt, found-counted, counted-found, age-step}
 
@@ -48,17 +48,17 @@ pub record ClockIs (es : List Event) (t : Clock) : Type 0 where
 pub clock-fresh : ClockIs [] freshClock
 clock-fresh = record { aged = refl; placed = refl; remembered = refl }
 
--- a reset leaves the frames as they were
-pub clock-cleared : (es : List Event) (t : Clock) → ClockIs es t → ClockIs (es ▷ cleared) t
-clock-cleared es t v =
+-- an event that is no frame leaves the frames as they were
+pub clock-other : (es : List Event) (e : Event) → inputs (e ∷ []) ≡ [] → (t : Clock) → ClockIs es t → ClockIs (es ▷ e) t
+clock-other es e none t v =
     record {
       aged = subst (λ (l : List Input). t .age ≡ min settled (sinceRise (λ k. getD l k noInput .bit6) (length l))) same (v .aged);
       placed = subst (λ (l : List Input). t .slot ≡ length l % 8) same (v .placed);
       remembered = subst (λ (l : List Input). t .on ≡ latestBit (λ k. getD l k noInput .bit6) (length l)) same (v .remembered);
     }
   where
-    same : inputs es ≡ inputs (es ▷ cleared)
-    same = sym (inputs-cleared es)
+    same : inputs es ≡ inputs (es ▷ e)
+    same = sym (inputs-other es e none)
 
 slot-step : (slot n : ℕ) → slot ≡ n % 8 → slotAfter slot ≡ suc n % 8
 slot-step slot n e = by (ltb slot 7) refl

@@ -8,19 +8,21 @@ use mathlib.Core.Bool.{Bool, true, false, _||_}
 use mathlib.Core.List.{List, [], _∷_, _++_, append-nil}
 use lib.IntN.{pos, _+ℤ_, _-ℤ_}
 use lib.Dec.{T, ltb, leb, eqb}
-use lib.ListN.{getD}
+use lib.ListN.{getD, replicate}
 use borrow.Author.Tests.{le-leb, leb-true}
 use Rattle.frames.specs.Bits.{bitOf}
 use Rattle.phasor.specs.Cordic.{amplitudeOf}
 use Rattle.phasor.specs.Exact.{AtLeast, AtMost}
+use Rattle.relay.specs.declared.ChannelLevels.{ChannelLevels}
+use Rattle.relay.specs.declared.Levels.{Levels}
 use Rattle.relay.specs.declared.Settings.{Settings}
 use Rattle.relay.specs.Settings.{settled}
 use Rattle.relay.specs.Sound.{soundOf}
 use Rattle.relay.specs.Relay.{foundBy}
-use Rattle.history.specs.Calls.{Codes, Call, frame, refusalOf, acceptedFrames, deviceBit, Implementation}
-use Rattle.history.specs.History.{Event, channelHistory, frames, windowAt, Counted, FullRun}
+use Rattle.history.specs.Calls.{Codes, Call, frame, reset, change, refusalOf, acceptedFrames, deviceBit, inForce, Implementation}
+use Rattle.history.specs.History.{Event, ownLevels, channelHistory, frames, levelsAt, windowAt, Counted, FullRun}
 use Rattle.history.specs.Settling.{sinceRise}
-use Rattle.history.specs.Demand.{relayAfter, lossAfter, overAfter, RelayIs, FrameAnswered, CallAnswered, AcceptedSettings, Demanded}
+use Rattle.history.specs.Demand.{lossOf, overOf, relayAfter, lossAfter, overAfter, RelayIs, FrameAnswered, CallAnswered, AcceptedSettings, Demanded}
 use Rattle.history.proofs.Clock.{bit6In}
 use Rattle.history.proofs.Relay.{device-same, bit-before, bit-last}
 use Rattle.history.proofs.Settling.{latest-same, since-same, ageAt, found-counted, counted-found}
@@ -33,12 +35,26 @@ module _ (d : Implementation) (meets : Demanded d) (settings : Settings) (ok : A
   pub answer-says : (past : List Call) (call : Call) → CallAnswered d settings past call
   answer-says past call = meets settings ok (past ++ (call ∷ [])) .answers past call [] refl
 
-  -- "Refusal 2 never occurs in it"; the settings are those that were handed in
+  -- "Refusal 2 never occurs in it"; the settings are those in force (Paper 6)
   pub always-sound : (calls : List Call) → soundOf (relayAfter d settings calls) ≡ true
   always-sound calls = relay-says calls .sound
 
-  pub keeps-settings : (calls : List Call) → relayAfter d settings calls .settings ≡ settings
-  keeps-settings calls = relay-says calls .kept
+  pub holds-settings : (calls : List Call) → relayAfter d settings calls .settings ≡ record { levels = inForce (settings .levels) calls }
+  holds-settings calls = relay-says calls .held
+
+  -- "A refused call changes nothing": what a refused frame, reset and change answer, in full
+  pub frame-refused : (past : List Call) (codes : Codes) (enable : ℕ) → ¬ (refusalOf (frame codes enable) ≡ 0)
+      → d .frame (relayAfter d settings past) (codes .list) enable
+      ≡ record { relay = relayAfter d settings past; refusal = refusalOf (frame codes enable); amplitudes = replicate 6 0; output = 0 }
+  frame-refused past codes enable e = answer-says past (frame codes enable) .1 e
+
+  pub reset-refused : (past : List Call) (mask : ℕ) → ¬ (refusalOf (reset mask) ≡ 0)
+      → d .reset (relayAfter d settings past) mask ≡ record { relay = relayAfter d settings past; refusal = refusalOf (reset mask) }
+  reset-refused past mask e = answer-says past (reset mask) .1 e
+
+  pub change-refused : (past : List Call) (new : Levels) → ¬ (refusalOf (change new) ≡ 0)
+      → d .change (relayAfter d settings past) new ≡ record { relay = relayAfter d settings past; refusal = refusalOf (change new) }
+  change-refused past new e = answer-says past (change new) .1 e
 
   -- ---- at an accepted frame after the calls `past`
   module _ (past : List Call) (codes : Codes) (enable : ℕ) (taken : refusalOf (frame codes enable) ≡ 0) where
@@ -63,33 +79,40 @@ module _ (d : Implementation) (meets : Demanded d) (settings : Settings) (ok : A
     pub never-above : (c : ℕ) → c < 6 → amplitude c ≤ 10700
     never-above = answered .bounded
 
+    -- channel c's levels in frame n: "the one it ran under" (Paper 6)
+    abbrev made : ℕ → ChannelLevels
+    made c = ownLevels (settings .levels) c
+
+    abbrev level : ℕ → ℕ → ChannelLevels
+    level c n = levelsAt (made c) (history c) n
+
     -- Paper 8: "r is 0 or 100 times the second-harmonic amplitude is less than r times the fundamental", in frame n
     abbrev Tested : ℕ → ℕ → Type 0
     Tested c n =
-        let r : ℕ = getD (settings .restraint) (c - 3) 0 in
+        let r : ℕ = level c n .restraint in
         T (eqb r 0 || ltb (100 * amplitudeOf 2 (windowAt (history c) n)) (r * amplitudeOf 1 (windowAt (history c) n)))
 
     -- "if Z ≥ pickup + 2 (over) or Z < drop − 2 (loss) in each frame of a full run, the latch is on after its last frame"
-    pub loss-clear : (c : ℕ) → c < 6 → (j : ℕ) → j + 16 ≡ frames (history c) → FullRun (history c) 16 j
-        → ((n : ℕ) → j ≤ n → n < j + 16 → ¬ AtLeast 1 (windowAt (history c) n) (pos (getD (settings .drop) c 0) -ℤ pos 2))
+    pub loss-clear : (c : ℕ) → c < 6 → (j : ℕ) → j + 16 ≡ frames (history c) → FullRun lossOf (made c) (history c) 16 j
+        → ((n : ℕ) → j ≤ n → n < j + 16 → ¬ AtLeast 1 (windowAt (history c) n) (pos (level c n .drop) -ℤ pos 2))
         → T (lossAfter d settings calls c)
     loss-clear c h = answered .lossMargins c h .clearMargin
 
-    pub over-clear : (c : ℕ) → 3 ≤ c → c < 6 → (j : ℕ) → j + 4 ≡ frames (history c) → FullRun (history c) 4 j
-        → ((n : ℕ) → j ≤ n → n < j + 4 → AtLeast 1 (windowAt (history c) n) (pos (getD (settings .pickup) (c - 3) 0) +ℤ pos 2) × Tested c n)
+    pub over-clear : (c : ℕ) → 3 ≤ c → c < 6 → (j : ℕ) → j + 4 ≡ frames (history c) → FullRun overOf (made c) (history c) 4 j
+        → ((n : ℕ) → j ≤ n → n < j + 4 → AtLeast 1 (windowAt (history c) n) (pos (level c n .pickup) +ℤ pos 2) × Tested c n)
         → T (overAfter d settings calls c)
-    over-clear c k h = rw (le-leb 3 c k) at (answered .overMargins c k h .clearMargin)
+    over-clear c k h = answered .overMargins c k h .clearMargin
 
     -- "where a latch went on in a frame, Z ≥ pickup − 2 or Z < drop + 2 held in each frame of the full run ending there"
     pub loss-near : (c : ℕ) → c < 6 → ¬ T (lossAfter d settings past c) → T (lossAfter d settings calls c)
-        → (j : ℕ) × (j + 16 ≡ frames (history c)) × FullRun (history c) 16 j
-        × ((n : ℕ) → j ≤ n → n < j + 16 → ¬ AtLeast 1 (windowAt (history c) n) (pos (getD (settings .drop) c 0) +ℤ pos 2))
+        → (j : ℕ) × (j + 16 ≡ frames (history c)) × FullRun lossOf (made c) (history c) 16 j
+        × ((n : ℕ) → j ≤ n → n < j + 16 → ¬ AtLeast 1 (windowAt (history c) n) (pos (level c n .drop) +ℤ pos 2))
     loss-near c h = answered .lossMargins c h .nearMargin
 
     pub over-near : (c : ℕ) → 3 ≤ c → c < 6 → ¬ T (overAfter d settings past c) → T (overAfter d settings calls c)
-        → (j : ℕ) × (j + 4 ≡ frames (history c)) × FullRun (history c) 4 j
-        × ((n : ℕ) → j ≤ n → n < j + 4 → AtLeast 1 (windowAt (history c) n) (pos (getD (settings .pickup) (c - 3) 0) -ℤ pos 2) × Tested c n)
-    over-near c k h = rw (le-leb 3 c k) at (answered .overMargins c k h .nearMargin)
+        → (j : ℕ) × (j + 4 ≡ frames (history c)) × FullRun overOf (made c) (history c) 4 j
+        × ((n : ℕ) → j ≤ n → n < j + 4 → AtLeast 1 (windowAt (history c) n) (pos (level c n .pickup) -ℤ pos 2) × Tested c n)
+    over-near c k h = answered .overMargins c k h .nearMargin
 
     -- Paper 5, what the age says: the frame is counted where it finds age 72, by the age and the memory that the relay was handed back with
     pub counted-by-age : (c : ℕ)

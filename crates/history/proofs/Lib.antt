@@ -1,7 +1,12 @@
 pub mod Accepted
+pub mod ChangeCalls
+pub mod Changed
+pub mod ChangedOnes
 pub mod Channel
 pub mod Clock
 pub mod Computed
+pub mod RanUnder
+pub mod FullRuns
 pub mod Refutations
 pub mod Restraint
 pub mod RestraintOnes
@@ -13,6 +18,7 @@ pub mod History
 pub mod HistoryCalls
 pub mod Laws
 pub mod Tests
+pub mod Unchanged
 pub mod Theorem
 pub mod Unique
 pub mod Unsettled

@@ -1,6 +1,6 @@
 -- No wrong relay meets demand 3: what meets it answers as ours does (Unique), and on one list of calls or another a wrong relay does not. Most of
 -- these are frames of code 512 with every level 1 (document 01, "Bench figures"): "loss latches in frame 87; in frame 86 none". What ours answers is
--- computed in HistoryCalls. Relays that restrain or settle wrongly are in Restraint and Unsettled. Rests on Unique.
+-- computed in HistoryCalls. Relays that restrain, settle or take new levels wrongly are in Restraint, Unsettled and Changed. Rests on Unique.
 use Prim.Native.Nat.{ℕ, zero, suc, _≤_, _<_}
 use native.Mathlib.Decide.{decLe, decLt}
 use native.Mathlib.Omega.{arith}
@@ -19,18 +19,21 @@ use Rattle.relay.specs.declared.FreshAnswer.{FreshAnswer}
 use Rattle.relay.specs.declared.FrameAnswer.{FrameAnswer}
 use Rattle.relay.specs.declared.ResetAnswer.{ResetAnswer}
 use Rattle.relay.specs.Channel.{noChannel}
-use Rattle.relay.specs.Relay.{channelAt, zeroRelay, freshOf, ageFound, amplitudeIn, frameOf, resetOf}
+use Rattle.relay.specs.Relay.{channelAt, zeroRelay, freshOf, ageFound, amplitudeIn, frameOf, resetOf, changeOf}
 use Rattle.relay.proofs.Examples.{equalLevels}
-use Rattle.history.specs.Calls.{Call, frame, reset, frameRefusedBy, resetRefusedBy, acceptedFrames, deviceBit, Implementation, theRelay}
+use Rattle.history.specs.Calls.{Codes, Call, frame, reset, change, frameRefusedBy, resetRefusedBy, acceptedFrames, deviceBit}
+use Rattle.history.specs.Calls.{Implementation, theRelay}
 use Rattle.history.specs.History.{channelHistory, Counted}
 use Rattle.history.specs.Demand.{relayAfter, lossAfter, AcceptedSettings, Demanded}
-use Rattle.history.specs.WrongRelays.{EachFrame, EachReset, FixedLatches, Wrong, neverTrips, unaltered, fixedAmplitude}
+use Rattle.history.specs.WrongRelays.{noChange, EachFrame, EachReset, FixedLatches, Wrong, neverTrips, unaltered, fixedAmplitude}
 use Rattle.history.specs.WrongRelays.{fixedLatches, restartsAge, growsDisabled, oneTooMany, refusesSettings, refusesReset}
 use Rattle.history.specs.WrongRelays.{lossLatch, GoesOn}
 use Rattle.history.specs.WrongRelays.{ignoresRestraint, notStrict, thirdHarmonic, keepsRun, restrainsLoss, anothersRestraint}
 use Rattle.history.specs.WrongRelays.{neverSettles, settlesAtFall, countsTheRise, forgetsAtReset, remembersRefused}
+use Rattle.history.specs.WrongRelays.{movesLatch, keepsChanged, clearsRun, judgesOld, agesAnew, forgetsAtChange, forgetsChange, refusesChange}
 use Rattle.history.proofs.HistoryCalls.{ones, still, frames512, quiet, answerTo, calls}
 use Rattle.history.proofs.Laws.{answer-says}
+use Rattle.history.proofs.Changed as changed
 use Rattle.history.proofs.Clock.{bit6In}
 use Rattle.history.proofs.Computed.{computed}
 use Rattle.history.proofs.Relay.{frames-frame, after-end, device-same, bit-before, bit-last}
@@ -50,6 +53,17 @@ in-range = calls .lowest
 quiet-frames : (n : ℕ) → acceptedFrames (quiet n) ≡ n
 quiet-frames zero = refl
 quiet-frames (suc n) = frames-frame (quiet n) (still 512) 127 taken ∙ ap suc (quiet-frames n)
+
+-- and no change of levels
+no-change-end : (calls : List Call) (codes : Codes) (enable : ℕ) → noChange (calls ++ (frame codes enable ∷ [])) ≡ noChange calls
+no-change-end [] codes enable = refl
+no-change-end (frame a b ∷ calls) codes enable = no-change-end calls codes enable
+no-change-end (reset mask ∷ calls) codes enable = no-change-end calls codes enable
+no-change-end (change new ∷ calls) codes enable = refl
+
+quiet-changeless : (n : ℕ) → noChange (quiet n) ≡ true
+quiet-changeless zero = refl
+quiet-changeless (suc n) = no-change-end (quiet n) (still 512) 127 ∙ quiet-changeless n
 
 -- bit 6 is on in each of them
 bit-step : (n k : ℕ) → (k < n → deviceBit (quiet n) k ≡ true) → k < suc n → Dec (k < n) → deviceBit (quiet (suc n)) k ≡ true
@@ -87,19 +101,19 @@ module _ (d : Implementation) (meets : Demanded d) where
 
   never-trips : ¬ EachFrame d (λ r codes enable. d .frame r codes enable .output ≡ 0)
   never-trips wrong =
-      omega (arith, wrong ones in-range (quiet 87) (still 512) 127 taken, frame-same (quiet 87) 512 .output, calls .output87)
+      omega (arith, wrong ones in-range (quiet 87) refl (still 512) 127 taken, frame-same (quiet 87) 512 .output, calls .output87)
 
   stays : ¬ EachFrame d (λ r codes enable. d .frame r codes enable .relay ≡ r)
   stays wrong =
       let age : relayAfter d ones (quiet 1) .age ≡ relayAfter d ones [] .age =
-      ap (λ (r : Relay). r .age) (wrong ones in-range [] (still 512) 127 taken) in
+      ap (λ (r : Relay). r .age) (wrong ones in-range [] refl (still 512) 127 taken) in
       omega (arith, age, relay-same [] .age, relay-same (quiet 1) .age, calls .ages)
 
   fixed-amplitude : (m : ℕ) → ¬ EachFrame d (λ r codes enable. d .frame r codes enable .amplitudes ≡ replicate 6 m)
   fixed-amplitude m wrong = omega (arith, is 512 taken, is 1023 (calls .codes-taken .0), calls .amplitudes)
     where
       is : (code : ℕ) → frameRefusedBy (replicate 6 code) 127 ≡ 0 → m ≡ getD (answerTo [] code .amplitudes) 0 0
-      is code e = sym (ap (λ (l : List ℕ). getD l 0 0) (wrong ones in-range [] (still code) 127 e)) ∙ amplitude-same code
+      is code e = sym (ap (λ (l : List ℕ). getD l 0 0) (wrong ones in-range [] refl (still code) 127 e)) ∙ amplitude-same code
 
   fixed-latches : ¬ FixedLatches d
   fixed-latches wrong =
@@ -116,16 +130,16 @@ module _ (d : Implementation) (meets : Demanded d) where
               → lossAfter d ones (quiet (suc (suc n))) 0 ≡ lossAfter d ones (quiet 73) 0
           by (yes l) more =
               ap (λ (r : Relay). channelAt r 0 .«loss_latch») (after-end d (d .fresh ones .relay) (quiet (suc n)) (frame (still 512) 127))
-              ∙ wrong ones in-range (quiet n) (still 512) (still 512) 127 127 taken taken (counted n l) 0 (omega arith) ∙ more l
+              ∙ wrong ones in-range (quiet n) (quiet-changeless n) (still 512) (still 512) 127 127 taken taken (counted n l) 0 (omega arith) ∙ more l
           by (no l) more = ap (λ (k : ℕ). lossAfter d ones (quiet (suc k)) 0) (let e : suc n ≡ 72 = omega arith in e)
 
   restarts-age : ¬ EachReset d (λ r mask. d .reset r mask .relay .age ≡ 0)
   restarts-age wrong =
-      omega (arith, wrong ones in-range (quiet 1) 0 (calls .ends-taken .0), relay-same (quiet 1 ++ (reset 0 ∷ [])) .age, calls .ages .2)
+      omega (arith, wrong ones in-range (quiet 1) refl 0 (calls .ends-taken .0), relay-same (quiet 1 ++ (reset 0 ∷ [])) .age, calls .ages .2)
 
   one-too-many : ¬ EachFrame d (OneMore d)
   one-too-many wrong =
-      omega (arith, wrong ones in-range [] (still 512) 127 taken 0 (omega arith), amplitude-same 512, calls .amplitudes .0)
+      omega (arith, wrong ones in-range [] refl (still 512) 127 taken 0 (omega arith), amplitude-same 512, calls .amplitudes .0)
 
 pub refuted : (d : Implementation) → Wrong d → ¬ Demanded d
 refuted d (neverTrips wrong) meets = never-trips d meets wrong
@@ -150,22 +164,31 @@ refuted d (countsTheRise g t rise late early) meets = unsettled.counts-the-rise 
 refuted d (forgetsAtReset settings ok past mask e wrong) meets = wrong (unsettled.forgets-at-reset d meets settings ok past mask)
 refuted d (remembersRefused settings ok past codes enable e wrong) meets =
     wrong (unsettled.remembers-refused d meets settings ok past codes enable e)
+refuted d (movesLatch g latch c h wrong) meets = wrong (changed.moves-latch d meets g latch c h)
+refuted d (keepsChanged g lately) meets = changed.keeps-changed d meets g lately
+refuted d (clearsRun latch wrong) meets = changed.clears-run d meets latch wrong
+refuted d (judgesOld g n unmet) meets = changed.judges-old d meets g n unmet
+refuted d (agesAnew g wrong) meets = wrong (changed.ages-anew d meets g)
+refuted d (forgetsAtChange g wrong) meets = wrong (changed.forgets-at-change d meets g)
+refuted d (forgetsChange settings ok past mask e wrong) meets = wrong (changed.forgets-change d meets settings ok past mask)
+refuted d (refusesChange g wrong) meets = wrong (answer-says d meets (g .settings) (g .accepted) (g .past) (change (g .new)) .0 (g .taken))
 
 -- ---- there are such relays: ours, with one thing changed in what accepted calls answer; a frame refused by 3 or 4 is answered as it should be
 
-abbrev pub changed : (Relay → List ℕ → ℕ → FrameAnswer → FrameAnswer) → Implementation
-changed f =
+abbrev pub framing : (Relay → List ℕ → ℕ → FrameAnswer → FrameAnswer) → Implementation
+framing f =
     record {
       fresh = freshOf;
       frame = λ r codes enable. cond (eqb (frameRefusedBy codes enable) 0) (f r codes enable (frameOf r codes enable)) (frameOf r codes enable);
       reset = resetOf;
+      change = changeOf;
     }
 
 abbrev withFresh : (Settings → FreshAnswer) → Implementation
-withFresh f = record { fresh = f; frame = frameOf; reset = resetOf }
+withFresh f = record { fresh = f; frame = frameOf; reset = resetOf; change = changeOf }
 
 abbrev pub resetting : (Relay → ℕ → ResetAnswer) → Implementation
-resetting f = record { fresh = freshOf; frame = frameOf; reset = f }
+resetting f = record { fresh = freshOf; frame = frameOf; reset = f; change = changeOf }
 
 abbrev pub withAge : ℕ → Relay → Relay
 withAge age r = record { channels = r .channels; age = age; slot = r .slot; «device_on» = r .«device_on»; settings = r .settings }
@@ -174,25 +197,25 @@ abbrev pub withMemory : Bool → Relay → Relay
 withMemory on r = record { channels = r .channels; age = r .age; slot = r .slot; «device_on» = on; settings = r .settings }
 
 abbrev muted : Implementation
-muted = changed (λ r codes enable a. record { relay = a .relay; refusal = a .refusal; amplitudes = a .amplitudes; output = 0 })
+muted = framing (λ r codes enable a. record { relay = a .relay; refusal = a .refusal; amplitudes = a .amplitudes; output = 0 })
 
 abbrev handing : Relay → FrameAnswer → FrameAnswer
 handing r a = record { relay = r; refusal = a .refusal; amplitudes = a .amplitudes; output = a .output }
 
 abbrev stuck : Implementation
-stuck = changed (λ r codes enable a. handing r a)
+stuck = framing (λ r codes enable a. handing r a)
 
 abbrev showing : List ℕ → FrameAnswer → FrameAnswer
 showing amplitudes a = record { relay = a .relay; refusal = a .refusal; amplitudes = amplitudes; output = a .output }
 
 abbrev constant : ℕ → Implementation
-constant m = changed (λ r codes enable a. showing (replicate 6 m) a)
+constant m = framing (λ r codes enable a. showing (replicate 6 m) a)
 
 abbrev oneMore : Relay → List ℕ → ℕ → ℕ
 oneMore r codes c = suc (amplitudeIn (r .slot) codes (r .channels) c)
 
 abbrev increased : Implementation
-increased = changed (λ r codes enable a. showing (table 6 (oneMore r codes)) a)
+increased = framing (λ r codes enable a. showing (table 6 (oneMore r codes)) a)
 
 -- the latches as the frame found them: up to the first counted frame no run is full, so these are the ones it would fix
 abbrev frozenAt : Relay → Relay → ℕ → Channel
@@ -210,15 +233,15 @@ refrozen was r =
     record { channels = table 6 (frozenAt was r); age = r .age; slot = r .slot; «device_on» = r .«device_on»; settings = r .settings }
 
 abbrev frozen : Implementation
-frozen = changed (λ r codes enable a. handing (refrozen r (a .relay)) a)
+frozen = framing (λ r codes enable a. handing (refrozen r (a .relay)) a)
 
 -- each accepted frame as if all were enabled
 abbrev enabling : Implementation
-enabling = changed (λ r codes enable a. frameOf r codes 127)
+enabling = framing (λ r codes enable a. frameOf r codes 127)
 
 -- the same of its runs alone: it remembers bit 6 and settles as it should
 abbrev growing : Implementation
-growing = changed (λ r codes enable a.
+growing = framing (λ r codes enable a.
     let b : FrameAnswer = frameOf (withMemory true (withAge (ageFound r enable) r)) codes 127 in
     record { relay = withMemory (bitOf enable 6) (b .relay); refusal = b .refusal; amplitudes = b .amplitudes; output = a .output })
 
@@ -243,11 +266,18 @@ abbrev refusing : Implementation
 refusing = withFresh (λ settings. none)
 
 abbrev narrow : Implementation
-narrow = withFresh (λ settings. cond (every 6 (λ c. leb (getD (settings .drop) c 0) 8192)) (freshOf settings) none)
+narrow = withFresh (λ settings. cond (every 6 (λ c. leb (getD (settings .levels .drop) c 0) 8192)) (freshOf settings) none)
 
 narrow-refuses : ¬ (narrow .fresh (equalLevels 10700 1) .refusal ≡ 0)
 unfolding every
 narrow-refuses e = absurd (omega arith)
+
+-- a number that is another lies where that does
+pub from-on : {n m t : ℕ} → n ≡ m → t ≤ m → t ≤ n
+from-on {t = t} e h = subst (λ (k : ℕ). t ≤ k) (sym e) h
+
+pub up-to : {n m t : ℕ} → n ≡ m → m < t → n < t
+up-to {t = t} e h = subst (λ (k : ℕ). k < t) (sym e) h
 
 -- Where the loss latch of channel 0 goes on in a last frame of code 512, every level 1.
 abbrev pub goes-on : (d : Implementation) (past : List Call) (enable : ℕ) → frameRefusedBy (replicate 6 512) enable ≡ 0
@@ -276,7 +306,8 @@ facts : Facts
 unfolding computed
 facts = record { off-taken = refl; enabling-on = (refl, refl); growing-on = (refl, refl) }
 
--- one implementation of each of the first nine kinds; those of restraint and of settling are in RestraintOnes and UnsettledOnes
+-- one implementation of each of the first nine kinds; those of restraint, of settling and of new levels are in RestraintOnes, UnsettledOnes and
+-- ChangedOnes
 pub record WrongOnes : Type 0 where
   pub never-trips : Wrong muted
   pub unaltered-one : Wrong stuck
@@ -293,11 +324,11 @@ pub record WrongOnes : Type 0 where
 pub wrong-ones : WrongOnes
 wrong-ones =
     record {
-      never-trips = neverTrips (λ settings ok past codes enable e. rw e);
-      unaltered-one = unaltered (λ settings ok past codes enable e. rw e);
-      one-amplitude = λ m. fixedAmplitude m (λ settings ok past codes enable e. rw e);
+      never-trips = neverTrips (λ settings ok past none codes enable e. rw e);
+      unaltered-one = unaltered (λ settings ok past none codes enable e. rw e);
+      one-amplitude = λ m. fixedAmplitude m (λ settings ok past none codes enable e. rw e);
       frozen-latches = fixedLatches frozen-so;
-      age-restarted = restartsAge (λ settings ok past mask e. rw e);
+      age-restarted = restartsAge (λ settings ok past none mask e. rw e);
       enable-ignored = growsDisabled
           (goes-on enabling (frames512 0 87) 0 (calls .middle-taken .1) (facts .enabling-on .0) (facts .enabling-on .1)) (λ t. t);
       runs-disabled = growsDisabled
@@ -309,11 +340,11 @@ wrong-ones =
     }
   where
     frozen-so : FixedLatches frozen
-    frozen-so settings ok past one two enableOne enableTwo e k h c l =
+    frozen-so settings ok past none one two enableOne enableTwo e k h c l =
         let r : Relay = relayAfter frozen settings (past ++ (frame one enableOne ∷ [])) in
         rw k (ap (λ (ch : Channel). ch .«loss_latch») (getD-table 6 (frozenAt r (frameOf r (two .list) enableTwo .relay)) noChannel c l))
 
     more-so : EachFrame increased (OneMore increased)
-    more-so settings ok past codes enable e c l =
+    more-so settings ok past none codes enable e c l =
         let r : Relay = relayAfter increased settings past in
         rw e (getD-table 6 (oneMore r (codes .list)) 0 c l)

@@ -1,4 +1,4 @@
--- The relay after a list of calls: it is sound, and its settings, age, slot, memory and six channels are those that the calls tell.
+-- The relay after a list of calls: it is sound, and its levels, age, slot, memory and six channels are those that the calls tell.
 -- One step for a call at the end, by cases on its refusal; then every list. Rests on Channel and on the laws of the relay's definitions.
 use Prim.Native.Nat.{ℕ, zero, suc, _<_}
 use native.Mathlib.Decide.{ℕ-discrete}
@@ -6,32 +6,43 @@ use native.Mathlib.Omega.{arith}
 use mathlib.Core.Path.{_≡_, refl, sym, ap, ap₂, _∙_}
 use mathlib.Core.Bool.{Bool, true, false, _&&_, cond}
 use mathlib.Core.List.{List, [], _∷_, _++_, append-nil, append-assoc}
+use lib.Dec.{leb}
 use lib.ListN.{length, getD, List·getD-append}
 use lib.Seq.{getD-append-seam}
 use borrow.Author.Tests.{ne-eqb}
+use Rattle.relay.specs.declared.Levels.{Levels}
 use Rattle.relay.specs.declared.Settings.{Settings}
 use Rattle.relay.specs.declared.Relay.{Relay}
 use Rattle.frames.specs.Bits.{bitOf}
+use Rattle.relay.specs.declared.ChannelLevels.{ChannelLevels}
 use Rattle.relay.specs.Settings.{levelsOf, loss, over}
 use Rattle.relay.specs.Channel.{clearedOf, channelAfter}
 use Rattle.relay.specs.Sound.{soundOf}
 use Rattle.relay.specs.Relay.{channelAt, unusedRelay, freshRelay, nextChannel, acceptedFrame, resetChannel, acceptedReset}
+use Rattle.relay.specs.Relay.{changedChannel, acceptedChange}
+use Rattle.relay.proofs.Changes.{change-sound, change-channel}
 use Rattle.relay.proofs.Laws.{fresh-is, fresh-sound, fresh-channel, frame-sound, frame-channel, reset-sound, reset-channel}
-use Rattle.history.specs.Calls.{Codes, Call, frame, reset, frameRefusedBy, resetRefusedBy, refusalOf, isAccepted, acceptedFrames}
-use Rattle.history.specs.Calls.{deviceBits, deviceBit}
+use Rattle.history.specs.Calls.{Codes, Call, frame, reset, change, frameRefusedBy, resetRefusedBy, changeRefusedBy, refusalOf, isAccepted}
+use Rattle.history.specs.Calls.{acceptedFrames, deviceBits, deviceBit, inForce}
 use Rattle.history.specs.Calls.{Implementation, theRelay, handedBack, after}
-use Rattle.history.specs.History.{Input, Event, sampled, cleared, inputOf, eventsOf, channelHistory, frames}
-use Rattle.history.specs.Demand.{levels, relayAfter, AcceptedSettings}
+use Rattle.history.specs.History.{Input, Event, sampled, cleared, changed, inputOf, ownLevels, eventsOf, channelHistory, frames, levelsAt}
+use Rattle.history.specs.Demand.{madeWith, relayAfter, AcceptedSettings}
 use Rattle.history.proofs.Accepted.{frame-codes, frame-accepted, frame-refused, reset-accepted, reset-refused, settings-sound}
+use Rattle.history.proofs.Accepted.{change-refusal, change-accepted, change-refused}
 use Rattle.history.proofs.History.{_▷_, frames-sampled}
 use Rattle.history.proofs.Clock.{clockOf, bit6In}
-use Rattle.history.proofs.Channel.{ChannelIs, channel-fresh, channel-cleared, channel-sampled}
+use Rattle.history.proofs.Channel.{ChannelIs, channel-fresh, channel-cleared, channel-changed, channel-sampled}
 
 -- ---- each channel's history of the calls
 
+pub history-append : (c : ℕ) (calls more : List Call) → channelHistory c (calls ++ more) ≡ channelHistory c calls ++ channelHistory c more
+history-append c [] more = refl
+history-append c (x ∷ calls) more =
+    rw (history-append c calls more) (sym (append-assoc (eventsOf c x) (channelHistory c calls) (channelHistory c more)))
+
 history-end : (c : ℕ) (calls : List Call) (call : Call) → channelHistory c (calls ++ (call ∷ [])) ≡ channelHistory c calls ++ eventsOf c call
-history-end c [] call = append-nil (eventsOf c call)
-history-end c (x ∷ calls) call = rw (history-end c calls call) (sym (append-assoc (eventsOf c x) (channelHistory c calls) (eventsOf c call)))
+history-end c calls call =
+    history-append c calls (call ∷ []) ∙ ap (λ (es : List Event). channelHistory c calls ++ es) (append-nil (eventsOf c call))
 
 pub history-frame : (c : ℕ) (calls : List Call) (codes : Codes) (enable : ℕ) → frameRefusedBy (codes .list) enable ≡ 0
     → channelHistory c (calls ++ (frame codes enable ∷ [])) ≡ channelHistory c calls ▷ sampled (inputOf c (codes .list) enable)
@@ -41,11 +52,16 @@ pub history-reset : (c : ℕ) (calls : List Call) (mask : ℕ) → resetRefusedB
     → channelHistory c (calls ++ (reset mask ∷ [])) ≡ channelHistory c calls ++ cond (bitOf mask c) (cleared ∷ []) []
 history-reset c calls mask e = rw (history-end, e)
 
+pub history-change : (c : ℕ) (calls : List Call) (new : Levels) → changeRefusedBy new ≡ 0
+    → channelHistory c (calls ++ (change new ∷ [])) ≡ channelHistory c calls ▷ changed (ownLevels new c)
+history-change c calls new e = rw (history-end, e)
+
 pub history-refused : (c : ℕ) (calls : List Call) (call : Call) → ¬ (refusalOf call ≡ 0)
     → channelHistory c (calls ++ (call ∷ [])) ≡ channelHistory c calls
 history-refused c calls (frame codes enable) e =
     rw (history-end, ne-eqb (frameRefusedBy (codes .list) enable) 0 e) (append-nil (channelHistory c calls))
 history-refused c calls (reset mask) e = rw (history-end, ne-eqb (resetRefusedBy mask) 0 e) (append-nil (channelHistory c calls))
+history-refused c calls (change new) e = rw (history-end, ne-eqb (changeRefusedBy new) 0 e) (append-nil (channelHistory c calls))
 
 -- each channel's history has as many frames as were accepted
 one-frame : (b : Bool) (i : Input) (es : List Event) → frames (cond b (sampled i ∷ []) [] ++ es) ≡ cond b (suc (frames es)) (frames es)
@@ -56,11 +72,16 @@ no-frame : (b : Bool) (es : List Event) → frames (cond b (cleared ∷ []) [] +
 no-frame true es = refl
 no-frame false es = refl
 
+no-frame-changed : (b : Bool) (new : ChannelLevels) (es : List Event) → frames (cond b (changed new ∷ []) [] ++ es) ≡ frames es
+no-frame-changed true new es = refl
+no-frame-changed false new es = refl
+
 pub frames-same : (c : ℕ) (calls : List Call) → frames (channelHistory c calls) ≡ acceptedFrames calls
 frames-same c [] = refl
 frames-same c (frame codes enable ∷ calls) =
     rw (← frames-same c calls) (one-frame (isAccepted (frame codes enable)) (inputOf c (codes .list) enable) (channelHistory c calls))
 frames-same c (reset mask ∷ calls) = no-frame (isAccepted (reset mask) && bitOf mask c) (channelHistory c calls) ∙ frames-same c calls
+frames-same c (change new ∷ calls) = no-frame-changed (isAccepted (change new)) (ownLevels new c) (channelHistory c calls) ∙ frames-same c calls
 
 pub frames-frame : (calls : List Call) (codes : Codes) (enable : ℕ) → frameRefusedBy (codes .list) enable ≡ 0
     → acceptedFrames (calls ++ (frame codes enable ∷ [])) ≡ suc (acceptedFrames calls)
@@ -79,12 +100,17 @@ no-bit : (b : Bool) (es : List Event) (n : ℕ) → bit6In es n ≡ bit6In (cond
 no-bit true es n = refl
 no-bit false es n = refl
 
+no-bit-changed : (b : Bool) (new : ChannelLevels) (es : List Event) (n : ℕ) → bit6In es n ≡ bit6In (cond b (changed new ∷ []) [] ++ es) n
+no-bit-changed true new es n = refl
+no-bit-changed false new es n = refl
+
 pub device-same : (c : ℕ) (calls : List Call) (n : ℕ) → deviceBit calls n ≡ bit6In (channelHistory c calls) n
 device-same c [] n = refl
 device-same c (frame codes enable ∷ calls) n =
     one-bit (isAccepted (frame codes enable)) (inputOf c (codes .list) enable) (deviceBits calls) (channelHistory c calls) (device-same c calls) n
 device-same c (reset mask ∷ calls) n =
     device-same c calls n ∙ no-bit (isAccepted (reset mask) && bitOf mask c) (channelHistory c calls) n
+device-same c (change new ∷ calls) n = device-same c calls n ∙ no-bit-changed (isAccepted (change new)) (ownLevels new c) (channelHistory c calls) n
 
 -- bit 6 of each accepted frame after a frame more, and after a reset
 length-bits : (calls : List Call) → length (deviceBits calls) ≡ acceptedFrames calls
@@ -96,6 +122,7 @@ length-bits (frame codes enable ∷ calls) = by (isAccepted (frame codes enable)
     by true e = ap suc e
     by false e = e
 length-bits (reset mask ∷ calls) = length-bits calls
+length-bits (change new ∷ calls) = length-bits calls
 
 bits-end : (calls : List Call) (call : Call) → deviceBits (calls ++ (call ∷ [])) ≡ deviceBits calls ++ deviceBits (call ∷ [])
 bits-end [] call = refl
@@ -106,6 +133,7 @@ bits-end (frame codes enable ∷ calls) call = rw (bits-end calls call) (by (isA
     by true = refl
     by false = refl
 bits-end (reset mask ∷ calls) call = bits-end calls call
+bits-end (change new ∷ calls) call = bits-end calls call
 
 pub bits-reset : (calls : List Call) (mask : ℕ) → deviceBits (calls ++ (reset mask ∷ [])) ≡ deviceBits calls
 bits-reset calls mask = bits-end calls (reset mask) ∙ append-nil (deviceBits calls)
@@ -126,26 +154,101 @@ module _ (calls : List Call) (codes : Codes) (enable : ℕ) (taken : frameRefuse
       ap₂ (λ (bits : List Bool) (k : ℕ). getD bits k false) bits-frame (sym (length-bits calls))
       ∙ getD-append-seam (deviceBits calls) (bitOf enable 6) [] false
 
+-- ---- levels
+
+-- the levels in force after more calls
+pub force-end : (made : Levels) (calls more : List Call) → inForce made (calls ++ more) ≡ inForce (inForce made calls) more
+force-end made [] more = refl
+force-end made (frame codes enable ∷ calls) more = force-end made calls more
+force-end made (reset mask ∷ calls) more = force-end made calls more
+force-end made (change new ∷ calls) more = force-end (cond (isAccepted (change new)) new made) calls more
+
+pub force-refused : (made : Levels) (call : Call) → ¬ (refusalOf call ≡ 0) → inForce made (call ∷ []) ≡ made
+force-refused made (frame codes enable) e = refl
+force-refused made (reset mask) e = refl
+force-refused made (change new) e = rw (ne-eqb (changeRefusedBy new) 0 e)
+
+pub force-change : (made new : Levels) → changeRefusedBy new ≡ 0 → inForce made (change new ∷ []) ≡ new
+force-change made new e = rw e
+
+-- channel c's own of the levels in force are those that its history has at the end
+pub own-in-force : (made : Levels) (c : ℕ) (calls : List Call)
+    → levelsAt (ownLevels made c) (channelHistory c calls) (frames (channelHistory c calls)) ≡ ownLevels (inForce made calls) c
+own-in-force made c [] = refl
+own-in-force made c (frame codes enable ∷ calls) = by (isAccepted (frame codes enable)) ∙ own-in-force made c calls
+  where
+    by : (b : Bool)
+        → (let es : List Event = cond b (sampled (inputOf c (codes .list) enable) ∷ []) [] ++ channelHistory c calls in
+        levelsAt (ownLevels made c) es (frames es) ≡ levelsAt (ownLevels made c) (channelHistory c calls) (frames (channelHistory c calls)))
+    by true = refl
+    by false = refl
+own-in-force made c (reset mask ∷ calls) = by (isAccepted (reset mask) && bitOf mask c) ∙ own-in-force made c calls
+  where
+    by : (b : Bool)
+        → (let es : List Event = cond b (cleared ∷ []) [] ++ channelHistory c calls in
+        levelsAt (ownLevels made c) es (frames es) ≡ levelsAt (ownLevels made c) (channelHistory c calls) (frames (channelHistory c calls)))
+    by true = refl
+    by false = refl
+own-in-force made c (change new ∷ calls) = by (isAccepted (change new)) (own-in-force new c calls) (own-in-force made c calls)
+  where
+    by : (b : Bool)
+        → levelsAt (ownLevels new c) (channelHistory c calls) (frames (channelHistory c calls)) ≡ ownLevels (inForce new calls) c
+        → levelsAt (ownLevels made c) (channelHistory c calls) (frames (channelHistory c calls)) ≡ ownLevels (inForce made calls) c
+        → (let es : List Event = cond b (changed (ownLevels new c) ∷ []) [] ++ channelHistory c calls in
+        levelsAt (ownLevels made c) es (frames es) ≡ ownLevels (inForce (cond b new made) calls) c)
+    by true e f = e
+    by false e f = f
+
+-- whatever they are, they are those of a voltage or of a current by the channel's number
+pub current-at : (c : ℕ) (calls : List Call) (made : ChannelLevels) → made .current ≡ leb 3 c → (n : ℕ)
+    → levelsAt made (channelHistory c calls) n .current ≡ leb 3 c
+current-at c [] made e n = e
+current-at c (frame codes enable ∷ calls) made e n = by (isAccepted (frame codes enable)) n (current-at c calls made e)
+  where
+    by : (b : Bool) (n : ℕ) → ((k : ℕ) → levelsAt made (channelHistory c calls) k .current ≡ leb 3 c)
+        → levelsAt made (cond b (sampled (inputOf c (codes .list) enable) ∷ []) [] ++ channelHistory c calls) n .current ≡ leb 3 c
+    by true zero rest = e
+    by true (suc n) rest = rest n
+    by false n rest = rest n
+current-at c (reset mask ∷ calls) made e n = by (isAccepted (reset mask) && bitOf mask c) (current-at c calls made e n)
+  where
+    by : (b : Bool) → levelsAt made (channelHistory c calls) n .current ≡ leb 3 c
+        → levelsAt made (cond b (cleared ∷ []) [] ++ channelHistory c calls) n .current ≡ leb 3 c
+    by true rest = rest
+    by false rest = rest
+current-at c (change new ∷ calls) made e n =
+    by (isAccepted (change new)) (current-at c calls (ownLevels new c) refl n) (current-at c calls made e n)
+  where
+    by : (b : Bool) → levelsAt (ownLevels new c) (channelHistory c calls) n .current ≡ leb 3 c
+        → levelsAt made (channelHistory c calls) n .current ≡ leb 3 c
+        → levelsAt made (cond b (changed (ownLevels new c) ∷ []) [] ++ channelHistory c calls) n .current ≡ leb 3 c
+    by true new-rest rest = new-rest
+    by false new-rest rest = rest
+
 -- ---- the relay
 
 module _ (settings : Settings) where
   -- channel c of the relay is as its own history of the calls says
   abbrev AtChannel : List Call → Relay → ℕ → Type 0
-  AtChannel calls r c = ChannelIs (loss (levels settings c)) (over (levels settings c)) (channelHistory c calls) (clockOf r) (channelAt r c)
+  AtChannel calls r c = ChannelIs loss over (madeWith settings c) (channelHistory c calls) (clockOf r) (channelAt r c)
 
   pub record Is (calls : List Call) (r : Relay) : Type 0 where
     pub sound : soundOf r ≡ true
     pub channel : (c : ℕ) → c < 6 → AtChannel calls r c
-    pub kept : r .settings ≡ settings
+    pub held : r .settings ≡ record { levels = inForce (settings .levels) calls }
+
+  -- channel c's own levels in it are those at the end of its history
+  own-levels : (calls : List Call) (r : Relay) → Is calls r → (c : ℕ)
+      → ownLevels (r .settings .levels) c ≡ levelsAt (madeWith settings c) (channelHistory c calls) (frames (channelHistory c calls))
+  own-levels calls r v c = ap (λ (s : Settings). ownLevels (s .levels) c) (v .held) ∙ sym (own-in-force (settings .levels) c calls)
 
   fresh-is-so : AcceptedSettings settings → Is [] (freshRelay settings)
   unfolding unusedRelay
   fresh-is-so ok =
       record {
         sound = fresh-sound settings (settings-sound settings ok);
-        channel = λ c h. rw (fresh-channel settings c h)
-            (channel-fresh (loss (levels settings c)) (over (levels settings c)) (omega arith) (omega arith));
-        kept = refl;
+        channel = λ c h. rw (fresh-channel settings c h) (channel-fresh loss over (omega arith) (omega arith) (madeWith settings c));
+        held = refl;
       }
 
   pub frame-is : (calls : List Call) (r : Relay) (codes : Codes) (enable : ℕ) → frameRefusedBy (codes .list) enable ≡ 0 → Is calls r
@@ -154,10 +257,10 @@ module _ (settings : Settings) where
   frame-is calls r codes enable e v =
       record {
         sound = frame-sound r (codes .list) enable (v .sound) (frame-codes (codes .list) enable e);
-        channel = λ c h. rw (frame-channel r (codes .list) enable c h, history-frame c calls codes enable e, v .kept)
-            (channel-sampled (loss (levels settings c)) (over (levels settings c)) (omega arith) (omega arith) (channelHistory c calls)
-            (clockOf r) (channelAt r c) (getD (codes .list) c 0) (bitOf enable c) (bitOf enable 6) (v .channel c h));
-        kept = v .kept;
+        channel = λ c h. rw (frame-channel r (codes .list) enable c h, history-frame c calls codes enable e)
+            (channel-sampled loss over (omega arith) (omega arith) (madeWith settings c) (channelHistory c calls) (clockOf r) (channelAt r c)
+            (v .channel c h) (ownLevels (r .settings .levels) c) (own-levels calls r v c) (getD (codes .list) c 0) (bitOf enable c) (bitOf enable 6));
+        held = v .held ∙ ap (λ (l : Levels). record { levels = l }) (sym (force-end (settings .levels) calls (frame codes enable ∷ [])));
       }
 
   reset-is : (calls : List Call) (r : Relay) (mask : ℕ) → resetRefusedBy mask ≡ 0 → Is calls r
@@ -167,20 +270,37 @@ module _ (settings : Settings) where
       record {
         sound = reset-sound r mask (v .sound);
         channel = λ c h. rw (reset-channel r mask c h, history-reset c calls mask e) (named c (bitOf mask c) (v .channel c h));
-        kept = v .kept;
+        held = v .held ∙ ap (λ (l : Levels). record { levels = l }) (sym (force-end (settings .levels) calls (reset mask ∷ [])));
       }
     where
       named : (c : ℕ) (b : Bool) → AtChannel calls r c
-          → ChannelIs (loss (levels settings c)) (over (levels settings c)) (channelHistory c calls ++ cond b (cleared ∷ []) []) (clockOf r)
+          → ChannelIs loss over (madeWith settings c) (channelHistory c calls ++ cond b (cleared ∷ []) []) (clockOf r)
           (cond b (clearedOf (channelAt r c)) (channelAt r c))
       named c true w =
-          channel-cleared (loss (levels settings c)) (over (levels settings c)) (omega arith) (omega arith) (channelHistory c calls)
-          (clockOf r) (channelAt r c) w
+          channel-cleared loss over (omega arith) (omega arith) (madeWith settings c) (channelHistory c calls) (clockOf r) (channelAt r c) w
       named c false w = rw append-nil w
+
+  change-is : (calls : List Call) (r : Relay) (new : Levels) → changeRefusedBy new ≡ 0 → Is calls r
+      → Is (calls ++ (change new ∷ [])) (acceptedChange r new .relay)
+  unfolding acceptedChange changedChannel levelsOf
+  change-is calls r new e v =
+      record {
+        sound = change-sound r new (v .sound) (change-refusal new ∙ e);
+        channel = λ c h. rw (change-channel r new c h, history-change c calls new e)
+            (channel-changed loss over (omega arith) (omega arith) (madeWith settings c) (channelHistory c calls) (clockOf r) (channelAt r c)
+            (v .channel c h) (ownLevels (r .settings .levels) c) (ownLevels new c) (own-levels calls r v c));
+        held = ap (λ (l : Levels). record { levels = l })
+            (sym (force-end (settings .levels) calls (change new ∷ []) ∙ force-change (inForce (settings .levels) calls) new e));
+      }
 
   refused-is : (calls : List Call) (r : Relay) (call : Call) → ¬ (refusalOf call ≡ 0) → Is calls r → Is (calls ++ (call ∷ [])) r
   refused-is calls r call e v =
-      record { sound = v .sound; channel = λ c h. rw (history-refused c calls call e) (v .channel c h); kept = v .kept }
+      record {
+        sound = v .sound;
+        channel = λ c h. rw (history-refused c calls call e) (v .channel c h);
+        held = v .held ∙ ap (λ (l : Levels). record { levels = l })
+            (sym (force-end (settings .levels) calls (call ∷ []) ∙ force-refused (inForce (settings .levels) calls) call e));
+      }
 
   call-is : (calls : List Call) (r : Relay) (call : Call) → Dec (refusalOf call ≡ 0) → Is calls r
       → Is (calls ++ (call ∷ [])) (handedBack theRelay r call)
@@ -189,6 +309,8 @@ module _ (settings : Settings) where
   call-is calls r (frame codes enable) (no e) v = rw (handedBack, frame-refused r (codes .list) enable (v .sound) e) (refused-is calls r _ e v)
   call-is calls r (reset mask) (yes e) v = rw (handedBack, reset-accepted r mask (v .sound) e) (reset-is calls r mask e v)
   call-is calls r (reset mask) (no e) v = rw (handedBack, reset-refused r mask (v .sound) e) (refused-is calls r (reset mask) e v)
+  call-is calls r (change new) (yes e) v = rw (handedBack, change-accepted r new (v .sound) e) (change-is calls r new e v)
+  call-is calls r (change new) (no e) v = rw (handedBack, change-refused r new (v .sound) e) (refused-is calls r (change new) e v)
 
   -- a list of calls on from others
   from : (past calls : List Call) (r : Relay) → Is past r → Is (past ++ calls) (after theRelay r calls)

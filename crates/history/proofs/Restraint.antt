@@ -10,17 +10,15 @@ use lib.IntN.{ℤ}
 use lib.Dec.{T, eqb}
 use lib.ListN.{getD, set, replicate}
 use borrow.Author.Tests.{eqb-true, ne-eqb, not-true}
-use mir.Facts.{and-yes}
 use Rattle.lists.specs.Each.{every}
 use Rattle.lists.proofs.Each.{every-at, and-left, and-right}
 use Rattle.relay.specs.declared.Settings.{Settings}
 use Rattle.history.specs.Calls.{Call, frame, acceptedFrames, Implementation, theRelay}
-use Rattle.history.specs.History.{Event, channelHistory, frames, inputAt, resets, resetsBefore, windowAt, InEach, FullRun, LatchOn}
-use Rattle.history.specs.Demand.{lossAfter, overAfter, AcceptedSettings, Demanded}
-use Rattle.history.specs.WrongRelays.{TripsBy, overPickup, overBy, overAtMost, overByThird, KeepsRun, lossTested, RestrainsLoss}
+use Rattle.history.specs.History.{Event, channelHistory, frames, resets, resetsBefore, windowAt, LatchOn}
+use Rattle.history.specs.Demand.{overOf, madeWith, lossAfter, overAfter, AcceptedSettings, Demanded}
+use Rattle.history.specs.WrongRelays.{noChange, runOfWindows, TripsBy, overPickup, overBy, overAtMost, overByThird, KeepsRun, lossTested, RestrainsLoss}
 use Rattle.history.proofs.Computed.{computed}
-use Rattle.history.proofs.Settling.{always-on}
-use Rattle.history.proofs.Clock.{bit6In}
+use Rattle.history.proofs.FullRuns.{runIn, each-holds, full-run, full-meeting}
 use Rattle.history.proofs.HistoryCalls.{still, restrained, in-range}
 use Rattle.history.proofs.Relay.{frames-same}
 use Rattle.history.proofs.Tests.{holds}
@@ -47,86 +45,47 @@ abbrev pub broken : List Call
 broken =
     cycle (612 ∷ 583 ∷ 512 ∷ 441 ∷ 412 ∷ 441 ∷ 512 ∷ 583 ∷ []) 75 ++ (frame (still 281) 127 ∷ frame (still 322) 127 ∷ [])
 
--- ---- full runs, from tests that antt computes
-
--- the first n frames have the channel enabled, and no reset comes before them, nor at all
-abbrev clearAt : List Event → ℕ → Bool
-clearAt es m = (inputAt es m .channelBit && inputAt es m .bit6) && eqb (resetsBefore es m) 0
-
-abbrev clear : List Event → ℕ → Bool
-clear es n = every n (clearAt es) && eqb (resets es) 0
-
-not-reset : (es : List Event) (n j : ℕ) → clear es n ≡ true → j < n → resetsBefore es j ≡ resets es
-not-reset es n j e l =
-    eqb-true (resetsBefore es j) 0 (and-right (inputAt es j .channelBit && inputAt es j .bit6) _ (every-at n (clearAt es) (and-left _ _ e) j l))
-    ∙ sym (eqb-true (resets es) 0 (and-right (every n (clearAt es)) _ e))
-
-full-run : (es : List Event) (len j : ℕ) → 72 ≤ j → j + len ≤ frames es → clear es (frames es) ≡ true → FullRun es len j
-full-run es len j h w e =
-    record {
-      within = w;
-      each = λ n a b. record {
-        counted = always-on (bit6In es) n (omega arith) (λ k l. and-yes (inputAt es k .channelBit) (inputAt es k .bit6) (on k (omega arith)) .1);
-        enabled = on n (omega arith);
-        notSeparated = none n (omega arith) ∙ sym (none j (omega arith));
-      };
-    }
-  where
-    at : (n : ℕ) → n < frames es → clearAt es n ≡ true
-    at = every-at (frames es) (clearAt es) (and-left _ _ e)
-
-    on : (n : ℕ) → n < frames es → T (inputAt es n .channelBit && inputAt es n .bit6)
-    on n l = subst T (sym (and-left (inputAt es n .channelBit && inputAt es n .bit6) (eqb (resetsBefore es n) 0) (at n l))) tt
-
-    none : (n : ℕ) → n < frames es → resetsBefore es n ≡ 0
-    none n l = eqb-true (resetsBefore es n) 0 (and-right (inputAt es n .channelBit && inputAt es n .bit6) _ (at n l))
-
--- a test holds in each frame of a run
-in-each : (p : ℕ → Bool) (j len : ℕ) → every len (λ k. p (j + k)) ≡ true → InEach j len (λ n. T (p n))
-in-each p j len e n a b =
-    subst (λ (m : ℕ). T (p m)) (let q : j + (n - j) ≡ n = omega arith in q)
-    (subst T (sym (every-at len (λ k. p (j + k)) e (n - j) (omega arith))) tt)
-
 -- ---- the refutations
 
--- What is computed of one test, for current k: its frames are clear, the wrong test holds in the last four of 76 frames, and our latch is off.
-abbrev shown : (Settings → List ℤ → Bool) → Settings → List Call → ℕ → Bool
-shown test s calls c =
+-- What is computed of one test, for current k: the last four of 76 frames are a full run after the last reset, the wrong test holds in each, and our
+-- latch is off.
+abbrev runs : (Settings → List ℤ → Bool) → Settings → List Call → ℕ → Bool
+runs test s calls c =
     let es : List Event = channelHistory c calls in
-    (clear es 76 && every 4 (λ i. test s (windowAt es (72 + i)))) && not (overAfter theRelay s calls c)
+    runIn (runOfWindows 4 (test s)) (madeWith s c) es 4 72 && eqb (resetsBefore es 72) (resets es)
+
+abbrev met : (Settings → List ℤ → Bool) → Settings → List Call → ℕ → Bool
+met test s calls c = every 4 (λ k. test s (windowAt (channelHistory c calls) (72 + k)))
+
+abbrev shown : (Settings → List ℤ → Bool) → Settings → List Call → ℕ → Bool
+shown test s calls c = (runs test s calls c && met test s calls c) && not (overAfter theRelay s calls c)
 
 module _ (d : Implementation) (meets : Demanded d) where
   pub over-same : (s : Settings) → AcceptedSettings s → (calls : List Call) (c : ℕ) → c < 6 → overAfter theRelay s calls c ≡ false
       → ¬ T (overAfter d s calls c)
   over-same s ok calls c h off t = subst T (same-relay d meets s ok calls .overLatch c h ∙ off) t
 
-  trips : (test : Settings → List ℤ → Bool) (s : Settings) → AcceptedSettings s → (calls : List Call) → acceptedFrames calls ≡ 76 → (c : ℕ) → c < 6
+  trips : (test : Settings → List ℤ → Bool) (s : Settings) → AcceptedSettings s → (calls : List Call) → noChange calls ≡ true → (c : ℕ) → c < 6
       → shown test s calls c ≡ true → ¬ TripsBy d c test
-  trips test s ok calls n c h e wrong =
-      over-same s ok calls c h (not-true _ (and-right two (not (overAfter theRelay s calls c)) e))
-      (wrong s ok calls (
+  trips test s ok calls none c h e wrong =
+      over-same s ok calls c h (not-true _ (and-right (run && each) (not (overAfter theRelay s calls c)) e))
+      (wrong s ok calls none (
         72,
-        record {
-          run = full-run es 4 72 (omega arith) (omega (arith, all)) (rw all (and-left (clear es 76) tested both));
-          meets = in-each (λ m. test s (windowAt es m)) 72 4 (and-right (clear es 76) tested both);
-          afterLastReset = not-reset es 76 72 (and-left (clear es 76) tested both) (omega arith);
-        },
+        full-meeting (runOfWindows 4 (test s)) (madeWith s c) es 72 (and-left _ (eqb (resetsBefore es 72) (resets es)) (and-left run each both))
+            (and-right run each both) (and-right (runIn (runOfWindows 4 (test s)) (madeWith s c) es 4 72) _ (and-left run each both)),
       ))
     where
       es : List Event
       es = channelHistory c calls
 
-      tested : Bool
-      tested = every 4 (λ i. test s (windowAt es (72 + i)))
+      run : Bool
+      run = runs test s calls c
 
-      two : Bool
-      two = clear es 76 && tested
+      each : Bool
+      each = met test s calls c
 
-      both : two ≡ true
-      both = and-left two (not (overAfter theRelay s calls c)) e
-
-      all : frames es ≡ 76
-      all = frames-same c calls ∙ n
+      both : run && each ≡ true
+      both = and-left (run && each) (not (overAfter theRelay s calls c)) e
 
 -- ---- what is computed
 
@@ -148,28 +107,30 @@ butFor l = restrained (set (replicate 3 15) l 0)
 
 -- drops of 401, which struck windows are below
 abbrev dropping : Settings
-dropping = record { drop = replicate 6 401; pickup = replicate 3 1; restraint = replicate 3 15 }
+dropping = record { levels = record { drop = replicate 6 401; pickup = replicate 3 1; restraint = replicate 3 15 } }
 
 abbrev long : List Call
 long = cycle (612 ∷ replicate 7 512) 88
 
 -- the same for the wrong relay of `KeepsRun`: 77 frames, of which the last five are as it says, and our latch is off
+abbrev whole : Settings → List Event → ℕ → Bool
+whole s es k = runIn overOf (madeWith s (k + 3)) es 5 72 && eqb (resetsBefore es 72) (resets es)
+
 abbrev kept : Settings → List Call → ℕ → Bool
 kept s calls k =
     let es : List Event = channelHistory (k + 3) calls in
     let fed : ℕ → Bool = λ n. overBy k k s (windowAt es n) in
-    ((clear es 77 && every 3 (λ i. fed (72 + i))) && ((overPickup k s (windowAt es 75) && not (fed 75)) && fed 76))
+    ((whole s es k && every 3 (λ i. fed (72 + i))) && ((overPickup k s (windowAt es 75) && not (fed 75)) && fed 76))
     && not (overAfter theRelay s calls (k + 3))
 
 -- and for that of `RestrainsLoss`: our loss latch is on after 88 frames, though frame 72 does not meet the wrong test
 abbrev lost : ℕ → Bool
-lost k = lossAfter theRelay dropping long (k + 3) && not (lossTested dropping k .meets (windowAt (channelHistory (k + 3) long) 72))
+lost k = lossAfter theRelay dropping long (k + 3) && not (lossTested dropping k .meets (madeWith dropping (k + 3)) (windowAt (channelHistory (k + 3) long) 72))
 
 record Computed : Type 0 where
-  frames-struck : acceptedFrames struck ≡ 76
-  frames-inrush : acceptedFrames inrush ≡ 76
   frames-broken : acceptedFrames broken ≡ 77
   frames-long : acceptedFrames long ≡ 88
+  no-changes : (noChange struck ≡ true) × (noChange inrush ≡ true) × (noChange broken ≡ true) × (noChange long ≡ true)
   ignored : every 3 (λ k. shown (overPickup k) fifteen struck (k + 3)) ≡ true
   at-most : every 3 (λ k. shown (overAtMost k) hundred struck (k + 3)) ≡ true
   third : every 3 (λ k. shown (overByThird k) fifty inrush (k + 3)) ≡ true
@@ -181,10 +142,9 @@ facts : Computed
 unfolding computed
 facts =
     record {
-      frames-struck = refl;
-      frames-inrush = refl;
       frames-broken = refl;
       frames-long = refl;
+      no-changes = (refl, refl, refl, refl);
       ignored = refl;
       at-most = refl;
       third = refl;
@@ -237,32 +197,33 @@ fails false e t = t
 module _ (d : Implementation) (meets : Demanded d) (k : ℕ) (h : k < 3) where
   pub ignores-restraint : ¬ TripsBy d (k + 3) (overPickup k)
   ignores-restraint =
-      trips d meets (overPickup k) fifteen (accepted .fifteens) struck (facts .frames-struck) (k + 3) (omega arith)
+      trips d meets (overPickup k) fifteen (accepted .fifteens) struck (facts .no-changes .0) (k + 3) (omega arith)
       (every-at 3 (λ k. shown (overPickup k) fifteen struck (k + 3)) (facts .ignored) k h)
 
   pub not-strict : ¬ TripsBy d (k + 3) (overAtMost k)
   not-strict =
-      trips d meets (overAtMost k) hundred (accepted .hundreds) struck (facts .frames-struck) (k + 3) (omega arith)
+      trips d meets (overAtMost k) hundred (accepted .hundreds) struck (facts .no-changes .0) (k + 3) (omega arith)
       (every-at 3 (λ k. shown (overAtMost k) hundred struck (k + 3)) (facts .at-most) k h)
 
   pub third-harmonic : ¬ TripsBy d (k + 3) (overByThird k)
   third-harmonic =
-      trips d meets (overByThird k) fifty (accepted .fifties) inrush (facts .frames-inrush) (k + 3) (omega arith)
+      trips d meets (overByThird k) fifty (accepted .fifties) inrush (facts .no-changes .1) (k + 3) (omega arith)
       (every-at 3 (λ k. shown (overByThird k) fifty inrush (k + 3)) (facts .third) k h)
 
   pub anothers-restraint : (l : ℕ) → l < 3 → ¬ (l ≡ k) → ¬ TripsBy d (k + 3) (overBy l k)
   anothers-restraint l m ne =
-      trips d meets (overBy l k) (butFor l) (accepted-but l m) struck (facts .frames-struck) (k + 3) (omega arith)
+      trips d meets (overBy l k) (butFor l) (accepted-but l m) struck (facts .no-changes .0) (k + 3) (omega arith)
       (other (eqb l k) _ (every-at 3 (λ k. eqb l k || shown (overBy l k) (butFor l) struck (k + 3))
       (every-at 3 (λ l. every 3 (λ k. eqb l k || shown (overBy l k) (butFor l) struck (k + 3))) (facts .another) l m) k h) (ne-eqb l k ne))
 
   pub keeps-run : ¬ KeepsRun d k
   keeps-run wrong =
       over-same d meets thirty (accepted .thirties) broken (k + 3) (omega arith) (not-true _ (and-right body _ e))
-      (wrong thirty (accepted .thirties) broken 72 (sym all)
-      (full-run es 5 72 (omega arith) (omega (arith, all)) (rw all (and-left (clear es 77) three front)))
-      (not-reset es 77 72 (and-left (clear es 77) three front) (omega arith))
-      (in-each fed 72 3 (and-right (clear es 77) three front)) (holds over (and-left over (not (fed 75)) middle))
+      (wrong thirty (accepted .thirties) broken (facts .no-changes .2) 72 (sym all)
+      (full-run overOf (madeWith thirty (k + 3)) es 5 72 (and-left _ (eqb (resetsBefore es 72) (resets es)) (and-left (whole thirty es k) three front)))
+      (eqb-true (resetsBefore es 72) (resets es)
+      (and-right (runIn overOf (madeWith thirty (k + 3)) es 5 72) _ (and-left (whole thirty es k) three front)))
+      (each-holds fed 72 3 (and-right (whole thirty es k) three front)) (holds over (and-left over (not (fed 75)) middle))
       (fails (fed 75) (and-right over (not (fed 75)) middle)) (holds (fed 76) (and-right (over && not (fed 75)) (fed 76) back)))
     where
       es : List Event
@@ -278,19 +239,19 @@ module _ (d : Implementation) (meets : Demanded d) (k : ℕ) (h : k < 3) where
       over = overPickup k thirty (windowAt es 75)
 
       body : Bool
-      body = (clear es 77 && three) && ((over && not (fed 75)) && fed 76)
+      body = (whole thirty es k && three) && ((over && not (fed 75)) && fed 76)
 
       e : body && not (overAfter theRelay thirty broken (k + 3)) ≡ true
       e = every-at 3 (kept thirty broken) (facts .keeping) k h
 
-      whole : body ≡ true
-      whole = and-left body _ e
+      so : body ≡ true
+      so = and-left body _ e
 
-      front : clear es 77 && three ≡ true
-      front = and-left (clear es 77 && three) _ whole
+      front : whole thirty es k && three ≡ true
+      front = and-left (whole thirty es k && three) _ so
 
       back : (over && not (fed 75)) && fed 76 ≡ true
-      back = and-right (clear es 77 && three) _ whole
+      back = and-right (whole thirty es k && three) _ so
 
       middle : over && not (fed 75) ≡ true
       middle = and-left _ (fed 76) back
@@ -299,22 +260,25 @@ module _ (d : Implementation) (meets : Demanded d) (k : ℕ) (h : k < 3) where
       all = frames-same (k + 3) broken ∙ facts .frames-broken
 
   pub restrains-loss : ¬ RestrainsLoss d k
-  restrains-loss wrong = no (wrong dropping (accepted .drops) long (holds _ on))
+  restrains-loss wrong = no (wrong dropping (accepted .drops) long (facts .no-changes .3) (holds _ on))
     where
       es : List Event
       es = channelHistory (k + 3) long
 
-      e : lossAfter theRelay dropping long (k + 3) && not (lossTested dropping k .meets (windowAt es 72)) ≡ true
+      tested : List ℤ → Bool
+      tested w = lossTested dropping k .meets (madeWith dropping (k + 3)) w
+
+      e : lossAfter theRelay dropping long (k + 3) && not (tested (windowAt es 72)) ≡ true
       e = every-at 3 lost (facts .losing) k h
 
       on : lossAfter d dropping long (k + 3) ≡ true
       on = same-relay d meets dropping (accepted .drops) long .lossLatch (k + 3) (omega arith) ∙ and-left _ _ e
 
       -- a full run of 16 in 88 frames begins in frame 72
-      no : ¬ LatchOn (lossTested dropping k) es
+      no : ¬ LatchOn (lossTested dropping k) (madeWith dropping (k + 3)) es
       no (j, m) =
-          fails (lossTested dropping k .meets (windowAt es 72))
-          (and-right (lossAfter theRelay dropping long (k + 3)) (not (lossTested dropping k .meets (windowAt es 72))) e)
+          fails (tested (windowAt es 72))
+          (and-right (lossAfter theRelay dropping long (k + 3)) (not (tested (windowAt es 72))) e)
           (m .meets 72 (omega (arith, last)) (omega (arith, first)))
         where
           first : 72 ≤ j

@@ -1,6 +1,7 @@
 -- There are relays that restrain wrongly in the ways that `Wrong` says: ours, with one thing changed in what an accepted frame makes of a channel.
 -- Five of them have another kind of run, so that what is proved of a channel for any kinds says when their latches are on; in the sixth a restrained
--- frame leaves the run as it was. Lists from accepted settings hold no unsound relay, so these look at no soundness. Rests on Channel.
+-- frame leaves the run as it was. Lists from accepted settings hold no unsound relay, so these look at no soundness; and lists in which levels are
+-- changed need not be looked at. Rests on Channel.
 use Prim.Native.Nat.{ℕ, zero, suc, _+_, _-_, _%_, _≤_, _<_, min}
 use native.Mathlib.Decide.{ℕ-discrete}
 use native.Mathlib.Omega.{arith}
@@ -19,6 +20,7 @@ use Rattle.frames.specs.Codes.{sampleOf}
 use Rattle.frames.specs.Bits.{bitOf, bitsBelow, enabledIn}
 use Rattle.phasor.specs.Cordic.{amplitudeOf}
 use Rattle.relay.specs.declared.Channel.{Channel}
+use Rattle.relay.specs.declared.ChannelLevels.{ChannelLevels}
 use Rattle.relay.specs.declared.Settings.{Settings}
 use Rattle.relay.specs.declared.Relay.{Relay}
 use Rattle.relay.specs.declared.FrameAnswer.{FrameAnswer}
@@ -26,20 +28,20 @@ use Rattle.relay.specs.declared.ResetAnswer.{ResetAnswer}
 use Rattle.relay.specs.Settings.{Kind}
 use Rattle.relay.specs.Channel.{noChannel, freshChannel, clearedOf, runAfter, nextRun, nextLatch, latchOn}
 use Rattle.relay.specs.Relay.{channelAt, unusedRelay, freshRelay, freshOf, ageFound, counted, ageAfter, slotAfter, amplitudeIn}
-use Rattle.relay.specs.Relay.{resetChannel, acceptedReset}
+use Rattle.relay.specs.Relay.{resetChannel, acceptedReset, changeOf}
 use Rattle.relay.proofs.Laws.{fresh-is, fresh-channel, reset-channel}
-use Rattle.history.specs.Calls.{Codes, Call, frame, reset, frameRefusedBy, resetRefusedBy, refusalOf, Implementation, handedBack, after}
-use Rattle.history.specs.History.{Input, Event, sampled, cleared, channelHistory, frames, windowOf, windowAt}
+use Rattle.history.specs.Calls.{Codes, Call, frame, reset, change, frameRefusedBy, resetRefusedBy, refusalOf, Implementation, handedBack, after}
+use Rattle.history.specs.History.{Input, Event, sampled, cleared, changed, channelHistory, frames, levelsAt, changesBefore, windowOf, windowAt}
 use Rattle.history.specs.History.{Counted, InEach, InRun, LatchOn}
-use Rattle.history.specs.Demand.{harmonicTest, levels, lossOf, overOf, relayAfter, lossAfter, overAfter, AcceptedSettings}
-use Rattle.history.specs.WrongRelays.{TripsBy, overPickup, overBy, overAtMost, overByThird, KeepsRun, RestrainsLoss, Wrong}
+use Rattle.history.specs.Demand.{harmonicTest, lossOf, overOf, madeWith, relayAfter, lossAfter, overAfter, AcceptedSettings}
+use Rattle.history.specs.WrongRelays.{noChange, runOfWindows, TripsBy, overPickup, overBy, overAtMost, overByThird, KeepsRun, lossTested, RestrainsLoss, Wrong}
 use Rattle.history.specs.WrongRelays.{ignoresRestraint, notStrict, thirdHarmonic, keepsRun, restrainsLoss, anothersRestraint}
 use Rattle.history.proofs.Accepted.{settings-sound}
 use Rattle.history.proofs.History.{_▷_, frames-sampled, inputs-cleared, input-last, resets-cleared}
-use Rattle.history.proofs.History.{before-append, before-le, window-cleared, window-sampled}
-use Rattle.history.proofs.Clock.{Clock, clockOf, freshClock, countedBy, ticked, ClockIs, clock-fresh, clock-cleared, clock-sampled, counted-is}
+use Rattle.history.proofs.History.{before-append, before-le, window-sampled}
+use Rattle.history.proofs.Clock.{Clock, clockOf, freshClock, countedBy, ticked, ClockIs, clock-fresh, clock-other, clock-sampled, counted-is}
 use Rattle.history.proofs.Channel.{Live, live-same, ChannelIs, channelBy, loss-rule, over-rule}
-use Rattle.history.proofs.Channel.{channel-fresh, channel-cleared, channel-sampled}
+use Rattle.history.proofs.Channel.{samples-other, channel-fresh, channel-cleared, channel-sampled}
 use Rattle.history.proofs.Relay.{history-frame, history-reset, history-refused}
 use Rattle.history.proofs.Tests.{is-true}
 
@@ -76,6 +78,7 @@ module _ (make : Making) where
             (record { relay = r; refusal = frameRefusedBy codes enable; amplitudes = replicate 6 0; output = 0 });
         reset = λ r mask. cond {A = ResetAnswer} (eqb (resetRefusedBy mask) 0) (acceptedReset r mask)
             (record { relay = r; refusal = resetRefusedBy mask });
+        change = changeOf;
       }
 
   -- ---- a claim about each channel, its history of the calls and the clock, that each call keeps
@@ -89,20 +92,20 @@ module _ (make : Making) where
     where
       pub record Is (calls : List Call) (r : Relay) : Type 0 where
         pub channel : (c : ℕ) → c < 6 → Holds c (channelHistory c calls) (clockOf r) (channelAt r c)
-        pub kept : r .settings ≡ settings
+        pub held : r .settings ≡ settings
 
       fresh-so : Is [] (freshRelay settings)
       unfolding unusedRelay
-      fresh-so = record { channel = λ c h. rw (fresh-channel settings c h) (at-fresh c); kept = refl }
+      fresh-so = record { channel = λ c h. rw (fresh-channel settings c h) (at-fresh c); held = refl }
 
       frame-so : (calls : List Call) (r : Relay) (codes : Codes) (enable : ℕ) → frameRefusedBy (codes .list) enable ≡ 0 → Is calls r
           → Is (calls ++ (frame codes enable ∷ [])) (framed r (codes .list) enable .relay)
       frame-so calls r codes enable e v =
           record {
-            channel = λ c h. rw (getD-table 6 (madeAt r (codes .list) enable) noChannel c h, history-frame c calls codes enable e, v .kept)
+            channel = λ c h. rw (getD-table 6 (madeAt r (codes .list) enable) noChannel c h, history-frame c calls codes enable e, v .held)
                 (at-frame c (channelHistory c calls) (clockOf r) (getD (codes .list) c 0) (bitOf enable c) (bitOf enable 6) (channelAt r c)
                 (v .channel c h));
-            kept = v .kept;
+            held = v .held;
           }
 
       reset-so : (calls : List Call) (r : Relay) (mask : ℕ) → resetRefusedBy mask ≡ 0 → Is calls r
@@ -111,7 +114,7 @@ module _ (make : Making) where
       reset-so calls r mask e v =
           record {
             channel = λ c h. rw (reset-channel r mask c h, history-reset c calls mask e) (named c (bitOf mask c) (v .channel c h));
-            kept = v .kept;
+            held = v .held;
           }
         where
           named : (c : ℕ) (b : Bool) → Holds c (channelHistory c calls) (clockOf r) (channelAt r c)
@@ -119,101 +122,156 @@ module _ (make : Making) where
           named c true w = at-reset c (channelHistory c calls) (clockOf r) (channelAt r c) w
           named c false w = rw append-nil w
 
-      call-so : (calls : List Call) (r : Relay) (call : Call) → Dec (refusalOf call ≡ 0) → Is calls r
+      call-so : (calls : List Call) (r : Relay) (call : Call) → noChange (call ∷ []) ≡ true → Dec (refusalOf call ≡ 0) → Is calls r
           → Is (calls ++ (call ∷ [])) (handedBack making r call)
-      call-so calls r (frame codes enable) (yes e) v = rw (handedBack, e) (frame-so calls r codes enable e v)
-      call-so calls r (frame codes enable) (no e) v = rw (handedBack, ne-eqb (frameRefusedBy (codes .list) enable) 0 e)
-          (record { channel = λ c h. rw (history-refused c calls (frame codes enable) e) (v .channel c h); kept = v .kept })
-      call-so calls r (reset mask) (yes e) v = rw (handedBack, e) (reset-so calls r mask e v)
-      call-so calls r (reset mask) (no e) v = rw (handedBack, ne-eqb (resetRefusedBy mask) 0 e)
-          (record { channel = λ c h. rw (history-refused c calls (reset mask) e) (v .channel c h); kept = v .kept })
+      call-so calls r (frame codes enable) q (yes e) v = rw (handedBack, e) (frame-so calls r codes enable e v)
+      call-so calls r (frame codes enable) q (no e) v = rw (handedBack, ne-eqb (frameRefusedBy (codes .list) enable) 0 e)
+          (record { channel = λ c h. rw (history-refused c calls (frame codes enable) e) (v .channel c h); held = v .held })
+      call-so calls r (reset mask) q (yes e) v = rw (handedBack, e) (reset-so calls r mask e v)
+      call-so calls r (reset mask) q (no e) v = rw (handedBack, ne-eqb (resetRefusedBy mask) 0 e)
+          (record { channel = λ c h. rw (history-refused c calls (reset mask) e) (v .channel c h); held = v .held })
+      call-so calls r (change new) q e v = absurd (false≢true q)
 
-      from : (past calls : List Call) (r : Relay) → Is past r → Is (past ++ calls) (after making r calls)
-      from past [] r v = rw append-nil v
-      from past (call ∷ calls) r v =
+      -- neither the first call is a change, nor one after it
+      both : (call : Call) (calls : List Call) → noChange (call ∷ calls) ≡ true → (noChange (call ∷ []) ≡ true) × (noChange calls ≡ true)
+      both (frame codes enable) calls q = (refl, q)
+      both (reset mask) calls q = (refl, q)
+      both (change new) calls q = absurd (false≢true q)
+
+      from : (past calls : List Call) (r : Relay) → noChange calls ≡ true → Is past r → Is (past ++ calls) (after making r calls)
+      from past [] r q v = rw append-nil v
+      from past (call ∷ calls) r q v =
           rw (← append-assoc past (call ∷ []) calls)
-          (from (past ++ (call ∷ [])) calls (handedBack making r call) (call-so past r call (ℕ-discrete (refusalOf call) 0) v))
+          (from (past ++ (call ∷ [])) calls (handedBack making r call) (both call calls q .1)
+          (call-so past r call (both call calls q .0) (ℕ-discrete (refusalOf call) 0) v))
 
-      pub making-is : (calls : List Call) → Is calls (relayAfter making settings calls)
-      making-is calls = rw (fresh-is settings (settings-sound settings ok)) (from [] calls (freshRelay settings) fresh-so)
+      pub making-is : (calls : List Call) → noChange calls ≡ true → Is calls (relayAfter making settings calls)
+      making-is calls q = rw (fresh-is settings (settings-sound settings ok)) (from [] calls (freshRelay settings) q fresh-so)
 
--- ---- other kinds of run
+-- ---- other tests of a window
 
--- a kind of run for each channel, from the settings
-abbrev Kinds : Type 0
-Kinds = Settings → ℕ → Kind
+-- a test for each channel, from the settings
+abbrev Tests : Type 0
+Tests = Settings → ℕ → List ℤ → Bool
 
-abbrev withKinds : Kinds → Kinds → Making
-withKinds lossKinds overKinds settings c = channelBy (lossKinds settings c) (overKinds settings c)
+abbrev lossBy : Tests → Settings → ℕ → Kind
+lossBy test settings c = runOfWindows 16 (test settings c)
 
-module _ (lossKinds overKinds : Kinds) (loss-some : (s : Settings) (c : ℕ) → 0 < lossKinds s c .len)
-    (over-some : (s : Settings) (c : ℕ) → 0 < overKinds s c .len) (settings : Settings) (ok : AcceptedSettings settings) (calls : List Call) where
+abbrev overBy4 : Tests → Settings → ℕ → Kind
+overBy4 test settings c = runOfWindows 4 (test settings c)
+
+abbrev withTests : Tests → Tests → Making
+withTests lossTest overTest settings c =
+    channelBy (lossBy lossTest settings c) (overBy4 overTest settings c) (madeWith settings c)
+
+module _ (lossTest overTest : Tests) (settings : Settings) (ok : AcceptedSettings settings) (calls : List Call) (none : noChange calls ≡ true) where
   abbrev d : Implementation
-  d = making (withKinds lossKinds overKinds)
+  d = making (withTests lossTest overTest)
 
-  channel-is : (c : ℕ) → c < 6 → ChannelIs (lossKinds settings c) (overKinds settings c) (channelHistory c calls)
-      (clockOf (relayAfter d settings calls)) (channelAt (relayAfter d settings calls) c)
+  abbrev Holds : ℕ → List Event → Clock → Channel → Type 0
+  Holds c = ChannelIs (lossBy lossTest settings c) (overBy4 overTest settings c) (madeWith settings c)
+
+  -- these tests look at no levels, so that those in force are as good as those made with
+  at-frame : (c : ℕ) (es : List Event) (t : Clock) (code : ℕ) (channelBit bit6 : Bool) (ch : Channel) → Holds c es t ch
+      → Holds c (es ▷ sampled (record { sample = sampleOf code; channelBit = channelBit; bit6 = bit6 })) (ticked t bit6)
+      (withTests lossTest overTest settings c (t .slot) (countedBy t bit6) (channelBit && bit6) code ch)
+  unfolding nextRun
+  at-frame c es t code channelBit bit6 ch v =
+      channel-sampled (lossBy lossTest settings c) (overBy4 overTest settings c) (lit< tt) (lit< tt) (madeWith settings c) es t ch v
+      (levelsAt (madeWith settings c) es (frames es)) refl code channelBit bit6
+
+  channel-is : (c : ℕ) → c < 6 → Holds c (channelHistory c calls) (clockOf (relayAfter d settings calls)) (channelAt (relayAfter d settings calls) c)
   channel-is =
-      making-is (withKinds lossKinds overKinds) settings ok (λ c. ChannelIs (lossKinds settings c) (overKinds settings c))
-      (λ c. channel-fresh (lossKinds settings c) (overKinds settings c) (loss-some settings c) (over-some settings c))
-      (λ c es t code channelBit bit6 ch.
-      channel-sampled (lossKinds settings c) (overKinds settings c) (loss-some settings c) (over-some settings c) es t ch code channelBit bit6)
-      (λ c. channel-cleared (lossKinds settings c) (overKinds settings c) (loss-some settings c) (over-some settings c)) calls .channel
+      making-is (withTests lossTest overTest) settings ok Holds
+      (λ c. channel-fresh (lossBy lossTest settings c) (overBy4 overTest settings c) (lit< tt) (lit< tt) (madeWith settings c)) at-frame
+      (λ c. channel-cleared (lossBy lossTest settings c) (overBy4 overTest settings c) (lit< tt) (lit< tt) (madeWith settings c)) calls none .channel
 
-  -- their latches go by the rule with these kinds
-  loss-on : (c : ℕ) → c < 6 → T (lossAfter d settings calls c) ↔ LatchOn (lossKinds settings c) (channelHistory c calls)
-  loss-on c h = loss-rule (lossKinds settings c) (overKinds settings c) (loss-some settings c) (over-some settings c) (channel-is c h)
+  -- their latches go by the rule with these tests
+  loss-on : (c : ℕ) → c < 6 → T (lossAfter d settings calls c) ↔ LatchOn (lossBy lossTest settings c) (madeWith settings c) (channelHistory c calls)
+  loss-on c h = loss-rule _ _ (lit< tt) (lit< tt) (madeWith settings c) (channel-is c h)
 
-  over-on : (c : ℕ) → c < 6 → T (overAfter d settings calls c) ↔ LatchOn (overKinds settings c) (channelHistory c calls)
-  over-on c h = over-rule (lossKinds settings c) (overKinds settings c) (loss-some settings c) (over-some settings c) (channel-is c h)
+  over-on : (c : ℕ) → c < 6 → T (overAfter d settings calls c) ↔ LatchOn (overBy4 overTest settings c) (madeWith settings c) (channelHistory c calls)
+  over-on c h = over-rule _ _ (lit< tt) (lit< tt) (madeWith settings c) (channel-is c h)
 
 -- a latch by one test is a latch by another that holds where the first does
-widened : (len : ℕ) (p q : List ℤ → Bool) (es : List Event) → ((w : List ℤ) → T (p w) → T (q w))
-    → LatchOn (record { len = len; meets = p }) es → LatchOn (record { len = len; meets = q }) es
-widened len p q es f (j, m) = (j, record { run = m .run; meets = λ n a b. f _ (m .meets n a b); afterLastReset = m .afterLastReset })
+widened : (len : ℕ) (p q : List ℤ → Bool) (made : ChannelLevels) (es : List Event) → ((w : List ℤ) → T (p w) → T (q w))
+    → LatchOn (runOfWindows len p) made es → LatchOn (runOfWindows len q) made es
+widened len p q made es f (j, m) = (
+  j,
+  record {
+    run = record {
+      within = m .run .within;
+      each = λ n a b.
+          let r : InRun (runOfWindows len p) made es j n = m .run .each n a b in
+          record { counted = r .counted; enabled = r .enabled; notSeparated = r .notSeparated; notChanged = same n ∙ r .notChanged ∙ sym (same j) };
+    };
+    meets = λ n a b. f _ (m .meets n a b);
+    afterLastReset = m .afterLastReset;
+  },
+)
+  where
+    -- both count the same changes
+    counts : (made : ChannelLevels) (es : List Event) (n : ℕ)
+        → changesBefore (runOfWindows len q) made es n ≡ changesBefore (runOfWindows len p) made es n
+    counts made [] n = refl
+    counts made (sampled i ∷ es) zero = refl
+    counts made (sampled i ∷ es) (suc n) = counts made es n
+    counts made (cleared ∷ es) n = counts made es n
+    counts made (changed new ∷ es) n = counts new es n
+
+    same : (n : ℕ) → changesBefore (runOfWindows len q) made es n ≡ changesBefore (runOfWindows len p) made es n
+    same n = counts made es n
 
 -- channel k + 3 is current k
 back : (k : ℕ) → k ≡ k + 3 - 3
 back k = omega arith
 
 -- an over run by another test of current k; a voltage has none
-abbrev overTested : (ℕ → Settings → List ℤ → Bool) → Kinds
-overTested test settings c = record { len = 4; meets = λ w. leb 3 c && test (c - 3) settings w }
+abbrev overTested : (ℕ → Settings → List ℤ → Bool) → Tests
+overTested test settings c w = leb 3 c && test (c - 3) settings w
+
+-- the demand's own tests, under the levels made with
+abbrev lossOwn : Tests
+lossOwn settings c w = lossOf .meets (madeWith settings c) w
+
+abbrev overOwn : Tests
+overOwn settings c w = overOf .meets (madeWith settings c) w
 
 abbrev tested : (ℕ → Settings → List ℤ → Bool) → Implementation
-tested test = making (withKinds lossOf (overTested test))
+tested test = making (withTests lossOwn (overTested test))
 
 tested-trips : (test : ℕ → Settings → List ℤ → Bool) (k : ℕ) → k < 3 → TripsBy (tested test) (k + 3) (test k)
-tested-trips test k h settings ok calls on =
-    over-on lossOf (overTested test) (λ s c. lit< tt) (λ s c. lit< tt) settings ok calls (k + 3) (omega arith) .1
-    (widened 4 (test k settings) (λ w. leb 3 (k + 3) && test (k + 3 - 3) settings w) (channelHistory (k + 3) calls)
+tested-trips test k h settings ok calls none on =
+    over-on lossOwn (overTested test) settings ok calls none (k + 3) (omega arith) .1
+    (widened 4 (test k settings) (overTested test settings (k + 3)) (madeWith settings (k + 3)) (channelHistory (k + 3) calls)
     (λ w t. yes-and (leb 3 (k + 3)) _ (le→leb 3 (k + 3) (omega arith)) (subst (λ (m : ℕ). T (test m settings w)) (back k) t)) on)
 
 -- the loss run under restraint too
-abbrev lossRestrained : Kinds
-lossRestrained settings c =
-    record { len = 16; meets = λ w. lossOf settings c .meets w && harmonicTest (levels settings c .restraint) w }
+abbrev lossRestrained : Tests
+lossRestrained settings c w = lossOwn settings c w && harmonicTest (madeWith settings c .restraint) w
 
 abbrev lossToo : Implementation
-lossToo = making (withKinds lossRestrained overOf)
+lossToo = making (withTests lossRestrained overOwn)
 
-restraint-of : (settings : Settings) (k : ℕ) → levels settings (k + 3) .restraint ≡ getD (settings .restraint) k 0
-restraint-of settings k = rw (le-leb 3 (k + 3) (omega arith)) (ap (λ (m : ℕ). getD (settings .restraint) m 0) (sym (back k)))
+restraint-of : (settings : Settings) (k : ℕ) → madeWith settings (k + 3) .restraint ≡ getD (settings .levels .restraint) k 0
+restraint-of settings k = rw (le-leb 3 (k + 3) (omega arith)) (ap (λ (m : ℕ). getD (settings .levels .restraint) m 0) (sym (back k)))
 
 loss-too : (k : ℕ) → k < 3 → RestrainsLoss lossToo k
-loss-too k h settings ok calls on =
-    rw (restraint-of settings k) at
-    (loss-on lossRestrained overOf (λ s c. lit< tt) (λ s c. lit< tt) settings ok calls (k + 3) (omega arith) .0 on)
+loss-too k h settings ok calls none on =
+    widened 16 (lossRestrained settings (k + 3)) (lossTested settings k .meets (madeWith settings (k + 3))) (madeWith settings (k + 3))
+    (channelHistory (k + 3) calls)
+    (λ w t. subst (λ (r : ℕ). T (lossOwn settings (k + 3) w && harmonicTest r w)) (restraint-of settings k) t)
+    (loss-on lossRestrained overOwn settings ok calls none (k + 3) (omega arith) .0 on)
 
 -- ---- a restrained frame leaves the run as it was
 
 -- m ≥ pickup, and the test does not hold
 abbrev heldBack : Settings → ℕ → List ℤ → Bool
-heldBack settings c w = leb 3 c && (leb (levels settings c .pickup) (amplitudeOf 1 w) && not (harmonicTest (levels settings c .restraint) w))
+heldBack settings c w = leb 3 c && (leb (madeWith settings c .pickup) (amplitudeOf 1 w) && not (harmonicTest (madeWith settings c .restraint) w))
 
 abbrev keeps : Making
 keeps settings c slot counted enabled code ch =
-    let made : Channel = channelBy (lossOf settings c) (overOf settings c) slot counted enabled code ch in
+    let made : Channel = withTests lossOwn overOwn settings c slot counted enabled code ch in
     record {
       samples = made .samples;
       «loss_run» = made .«loss_run»;
@@ -242,21 +300,25 @@ four run h = omega arith
 -- one held back and one that fed the latch is on.
 module _ (settings : Settings) (c : ℕ) where
   abbrev F : Kind
-  F = overOf settings c
+  F = overBy4 overOwn settings c
 
   abbrev H : Kind
-  H = record { len = 4; meets = heldBack settings c }
+  H = runOfWindows 4 (heldBack settings c)
+
+  -- of the levels, which these tests do not look at
+  abbrev M : ChannelLevels
+  M = madeWith settings c
 
   record Kept (es : List Event) (t : Clock) (ch : Channel) : Type 0 where
     samples : ch .samples ≡ windowOf es (frames es)
     clock : ClockIs es t
-    fed : (i : ℕ) → i ≤ frames es → InEach (frames es - i) i (Live F es) → min 4 i ≤ ch .«over_run»
-    held : (i last : ℕ) → suc last ≡ frames es → i ≤ last → InEach (last - i) i (Live F es) → Live H es last → min 4 i ≤ ch .«over_run»
-    on : (j : ℕ) → j + 5 ≡ frames es → InEach j 3 (Live F es) → Live H es (j + 3) → Live F es (j + 4) → T (ch .«over_latch»)
+    fed : (i : ℕ) → i ≤ frames es → InEach (frames es - i) i (Live F M es) → min 4 i ≤ ch .«over_run»
+    held : (i last : ℕ) → suc last ≡ frames es → i ≤ last → InEach (last - i) i (Live F M es) → Live H M es last → min 4 i ≤ ch .«over_run»
+    on : (j : ℕ) → j + 5 ≡ frames es → InEach j 3 (Live F M es) → Live H M es (j + 3) → Live F M es (j + 4) → T (ch .«over_latch»)
 
   -- the start, and a reset: no frame is live
   none-kept : (es : List Event) (t : Clock) (ch : Channel) → ch .samples ≡ windowOf es (frames es) → ClockIs es t
-      → ((kind : Kind) (n : ℕ) → n < frames es → ¬ Live kind es n) → Kept es t ch
+      → ((kind : Kind) (n : ℕ) → n < frames es → ¬ Live kind M es n) → Kept es t ch
   none-kept es t ch s clock none =
       record {
         samples = s;
@@ -266,7 +328,7 @@ module _ (settings : Settings) (c : ℕ) where
         on = λ j e f h g. absurd (none H (j + 3) (omega arith) h);
       }
     where
-      empty : (i : ℕ) → i ≤ frames es → InEach (frames es - i) i (Live F es) → min 4 i ≤ ch .«over_run»
+      empty : (i : ℕ) → i ≤ frames es → InEach (frames es - i) i (Live F M es) → min 4 i ≤ ch .«over_run»
       empty zero l f = omega arith
       empty (suc i) l f = absurd (none F (frames es - suc i) (omega arith) (f (frames es - suc i) (omega arith) (omega arith)))
 
@@ -276,10 +338,10 @@ module _ (settings : Settings) (c : ℕ) where
 
   kept-cleared : (es : List Event) (t : Clock) (ch : Channel) → Kept es t ch → Kept (es ▷ cleared) t (clearedOf ch)
   kept-cleared es t ch v =
-      none-kept (es ▷ cleared) t (clearedOf ch) (v .samples ∙ rw (inputs-cleared es) (sym (window-cleared es (frames es))))
-      (clock-cleared es t (v .clock)) none
+      none-kept (es ▷ cleared) t (clearedOf ch) (samples-other es cleared refl (ch .samples) (v .samples)) (clock-other es cleared refl t (v .clock))
+      none
     where
-      none : (kind : Kind) (n : ℕ) → n < frames (es ▷ cleared) → ¬ Live kind (es ▷ cleared) n
+      none : (kind : Kind) (n : ℕ) → n < frames (es ▷ cleared) → ¬ Live kind M (es ▷ cleared) n
       none kind n h b =
           let l : n < frames es = rw inputs-cleared at h in
           omega (arith, before-append es (cleared ∷ []) n l, b .3, resets-cleared es, before-le es n)
@@ -294,35 +356,35 @@ module _ (settings : Settings) (c : ℕ) where
     enabled = i .channelBit && i .bit6
 
     abbrev ran : ℕ → ℕ
-    ran run = cond (isCounted && (enabled && heldBack settings c w)) run (runAfter isCounted (enabled && F .meets w) 4 run)
+    ran run = cond (isCounted && (enabled && heldBack settings c w)) run (runAfter isCounted (enabled && overOwn settings c w) 4 run)
 
-    is-counted : (kind : Kind) → Live kind next (frames es) → isCounted ≡ true
+    is-counted : (kind : Kind) → Live kind M next (frames es) → isCounted ≡ true
     is-counted kind l = is-true isCounted (e .1 (l .0))
 
-    is-enabled : (kind : Kind) → Live kind next (frames es) → enabled ≡ true
+    is-enabled : (kind : Kind) → Live kind M next (frames es) → enabled ≡ true
     is-enabled kind l = is-true enabled (rw input-last at (l .1))
 
-    is-met : (kind : Kind) → Live kind next (frames es) → kind .meets w ≡ true
-    is-met kind l = is-true (kind .meets w) (subst (λ (v : List ℤ). T (kind .meets v)) (sym q) (l .2))
+    is-met : (test : List ℤ → Bool) → Live (runOfWindows 4 test) M next (frames es) → test w ≡ true
+    is-met test l = is-true (test w) (subst (λ (v : List ℤ). T (test v)) (sym q) (l .2))
 
-    grows : (run : ℕ) → Live F next (frames es) → runAfter isCounted (enabled && F .meets w) 4 run ≡ min 4 (suc run)
-    grows run l = rw (is-counted F l, is-enabled F l, is-met F l)
+    grows : (run : ℕ) → Live F M next (frames es) → runAfter isCounted (enabled && overOwn settings c w) 4 run ≡ min 4 (suc run)
+    grows run l = rw (is-counted F l, is-enabled F l, is-met (overOwn settings c) l)
 
-    fed-run : (run : ℕ) → Live F next (frames es) → ran run ≡ min 4 (suc run)
+    fed-run : (run : ℕ) → Live F M next (frames es) → ran run ≡ min 4 (suc run)
     fed-run run l =
         rw (
           is-counted F l,
           is-enabled F l,
-          is-met F l,
-          apart (leb 3 c) (leb (levels settings c .pickup) (amplitudeOf 1 w))
-              (harmonicTest (levels settings c .restraint) w) (is-met F l),
+          is-met (overOwn settings c) l,
+          apart (leb 3 c) (leb (madeWith settings c .pickup) (amplitudeOf 1 w))
+              (harmonicTest (madeWith settings c .restraint) w) (is-met (overOwn settings c) l),
         )
 
-    held-run : (run : ℕ) → Live H next (frames es) → ran run ≡ run
-    held-run run l = rw (is-counted H l, is-enabled H l, is-met H l)
+    held-run : (run : ℕ) → Live H M next (frames es) → ran run ≡ run
+    held-run run l = rw (is-counted H l, is-enabled H l, is-met (heldBack settings c) l)
 
-    before : (kind : Kind) (n : ℕ) → n < frames es → Live kind next n → Live kind es n
-    before kind n h = live-same kind es i n h .1
+    before : (kind : Kind) (n : ℕ) → n < frames es → Live kind M next n → Live kind M es n
+    before kind n h = live-same kind M es i n h .1
 
   kept-sampled : (es : List Event) (t : Clock) (code : ℕ) (channelBit bit6 : Bool) (ch : Channel) → Kept es t ch
       → Kept (es ▷ sampled (record { sample = sampleOf code; channelBit = channelBit; bit6 = bit6 })) (ticked t bit6)
@@ -358,33 +420,33 @@ module _ (settings : Settings) (c : ℕ) where
       run′ : ℕ
       run′ = ran es ev (countedBy t bit6) counts w window run
 
-      fed : (i : ℕ) → i ≤ suc n → InEach (suc n - i) i (Live F (es ▷ sampled ev)) → min 4 i ≤ run′
+      fed : (i : ℕ) → i ≤ suc n → InEach (suc n - i) i (Live F M (es ▷ sampled ev)) → min 4 i ≤ run′
       fed zero l f = omega arith
       fed (suc i) l f =
           let old : min 4 i ≤ run = v .fed i (omega arith)
           (λ m a b. before es ev (countedBy t bit6) counts w window F m (omega arith) (f m (omega arith) (omega arith))) in
           omega (arith, fed-run es ev (countedBy t bit6) counts w window run (f n (omega arith) (omega arith)))
 
-      held : (i last : ℕ) → suc last ≡ suc n → i ≤ last → InEach (last - i) i (Live F (es ▷ sampled ev)) → Live H (es ▷ sampled ev) last
+      held : (i last : ℕ) → suc last ≡ suc n → i ≤ last → InEach (last - i) i (Live F M (es ▷ sampled ev)) → Live H M (es ▷ sampled ev) last
           → min 4 i ≤ run′
       held i last q l f h =
           let same : last ≡ n = omega arith in
           let old : min 4 i ≤ run = v .fed i (omega arith)
           (λ m a b. before es ev (countedBy t bit6) counts w window F m (omega arith) (f m (omega arith) (omega arith))) in
-          omega (arith, held-run es ev (countedBy t bit6) counts w window run (subst (Live H (es ▷ sampled ev)) same h))
+          omega (arith, held-run es ev (countedBy t bit6) counts w window run (subst (Live H M (es ▷ sampled ev)) same h))
 
-      on : (j : ℕ) → j + 5 ≡ suc n → InEach j 3 (Live F (es ▷ sampled ev)) → Live H (es ▷ sampled ev) (j + 3) → Live F (es ▷ sampled ev) (j + 4)
-          → T (nextLatch F (runAfter (countedBy t bit6) ((channelBit && bit6) && F .meets w) 4 run) (ch .«over_latch»))
+      on : (j : ℕ) → j + 5 ≡ suc n → InEach j 3 (Live F M (es ▷ sampled ev)) → Live H M (es ▷ sampled ev) (j + 3) → Live F M (es ▷ sampled ev) (j + 4)
+          → T (nextLatch F (runAfter (countedBy t bit6) ((channelBit && bit6) && overOwn settings c w) 4 run) (ch .«over_latch»))
       on j q f h g =
           let three : 3 ≤ run = v .held 3 (j + 3) (omega arith) (omega arith)
           (λ m a b. before es ev (countedBy t bit6) counts w window F m (omega arith) (f m (omega arith) (omega arith)))
           (before es ev (countedBy t bit6) counts w window H (j + 3) (omega arith) h) in
           let last : j + 4 ≡ n = omega arith in
-          latched (ch .«over_latch») _ (grows es ev (countedBy t bit6) counts w window run (subst (Live F (es ▷ sampled ev)) last g) ∙ four run three)
+          latched (ch .«over_latch») _ (grows es ev (countedBy t bit6) counts w window run (subst (Live F M (es ▷ sampled ev)) last g) ∙ four run three)
 
 -- the relay whose runs are kept fits its kind
 keeps-run : (k : ℕ) → k < 3 → KeepsRun (making keeps) k
-keeps-run k h settings ok calls j e run after fed over not-fed last =
+keeps-run k h settings ok calls none j e run after fed over not-fed last =
     v .on j e (λ n a b. live n a (omega arith) (feeds n (fed n a b))) held-at (live (j + 4) (omega arith) (omega arith) (feeds (j + 4) last))
   where
     es : List Event
@@ -393,13 +455,13 @@ keeps-run k h settings ok calls j e run after fed over not-fed last =
     v : Kept settings (k + 3) es (clockOf (relayAfter (making keeps) settings calls))
         (channelAt (relayAfter (making keeps) settings calls) (k + 3))
     v = making-is keeps settings ok (λ c. Kept settings c) (λ c. kept-fresh settings c) (λ c. kept-sampled settings c) (λ c. kept-cleared settings c)
-        calls .channel (k + 3) (omega arith)
+        calls none .channel (k + 3) (omega arith)
 
     three : leb 3 (k + 3) ≡ true
     three = le-leb 3 (k + 3) (omega arith)
 
     -- the tests of current k are those of channel k + 3
-    feeds : (n : ℕ) → T (overBy k k settings (windowAt es n)) → T (overOf settings (k + 3) .meets (windowAt es n))
+    feeds : (n : ℕ) → T (overBy k k settings (windowAt es n)) → T (overOwn settings (k + 3) (windowAt es n))
     feeds n t = rw (three, ← back k) t
 
     holds-back : (a b : Bool) → T a → ¬ T (a && b) → T (a && not b)
@@ -407,17 +469,17 @@ keeps-run k h settings ok calls j e run after fed over not-fed last =
     holds-back true false t f = tt
     holds-back false b t f = absurd t
 
-    held-at : Live (H settings (k + 3)) es (j + 3)
+    held-at : Live (H settings (k + 3)) (madeWith settings (k + 3)) es (j + 3)
     held-at =
-        let r : InRun es j (j + 3) = run .each (j + 3) (omega arith) (omega arith) in (
+        let r : InRun overOf (madeWith settings (k + 3)) es j (j + 3) = run .each (j + 3) (omega arith) (omega arith) in (
           r .counted,
           r .enabled,
           rw (three, ← back k) (holds-back (overPickup k settings (windowAt es (j + 3)))
-              (harmonicTest (getD (settings .restraint) k 0) (windowAt es (j + 3))) over not-fed),
+              (harmonicTest (getD (settings .levels .restraint) k 0) (windowAt es (j + 3))) over not-fed),
           r .notSeparated ∙ after,
         )
 
-    live : (n : ℕ) → j ≤ n → n < j + 5 → T (overOf settings (k + 3) .meets (windowAt es n)) → Live (F settings (k + 3)) es n
+    live : (n : ℕ) → j ≤ n → n < j + 5 → T (overOwn settings (k + 3) (windowAt es n)) → Live (F settings (k + 3)) (madeWith settings (k + 3)) es n
     live n a b t = (run .each n a b .counted, run .each n a b .enabled, t, run .each n a b .notSeparated ∙ after)
 
 -- ---- one relay of each kind

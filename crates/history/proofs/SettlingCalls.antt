@@ -49,7 +49,7 @@ abbrev switched : List Call
 switched = off ∷ badOn ∷ on ∷ badOff ∷ on ∷ off ∷ reset 63 ∷ badOn ∷ on ∷ reset 64 ∷ []
 
 -- the first n of them
-abbrev firstOf : ℕ → List Call → List Call
+abbrev pub firstOf : ℕ → List Call → List Call
 firstOf zero calls = []
 firstOf (suc n) [] = []
 firstOf (suc n) (call ∷ calls) = call ∷ firstOf n calls

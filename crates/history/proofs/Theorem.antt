@@ -1,8 +1,8 @@
--- Demand 3: every list of frames and resets, refused ones among them, on a relay that is made with accepted settings.
+-- Demand 3: every list of frames, resets and changes of levels, refused ones among them, on a relay that is made with accepted settings.
 -- Rests on Relay (what the relay is after a list), Channel (the rule for a latch), Windows, and on what is proved of the amplitude.
 use Prim.Native.Nat.{ℕ, suc, _%_, _≤_, _<_, min}
 use native.Mathlib.Omega.{arith}
-use mathlib.Core.Path.{_≡_, refl, sym, ap, _∙_}
+use mathlib.Core.Path.{_≡_, refl, sym, ap, _∙_, subst}
 use mathlib.Core.Logic.{_↔_, _⊎_, inl, inr, ⊎-elim}
 use mathlib.Core.Bool.{Bool, true, false, _&&_, _||_}
 use mathlib.Core.List.{List, [], _∷_, _++_}
@@ -17,25 +17,27 @@ use Rattle.phasor.specs.Cordic.{amplitudeOf}
 use Rattle.phasor.specs.Window.{windowSound}
 use Rattle.phasor.proofs.Theorems.{accurate, over-clear, over-near, loss-clear, loss-near}
 use Rattle.relay.specs.declared.Channel.{Channel}
+use Rattle.relay.specs.declared.ChannelLevels.{ChannelLevels}
 use Rattle.relay.specs.declared.Settings.{Settings}
 use Rattle.relay.specs.declared.Relay.{Relay}
 use Rattle.relay.specs.declared.FrameAnswer.{FrameAnswer}
 use Rattle.relay.specs.Settings.{settled, loss, over}
 use Rattle.relay.specs.Channel.{windowAfter, channelAfter}
-use Rattle.relay.specs.Relay.{channelAt, freshOf, counted, nextChannel, amplitudeIn, outputIn, acceptedFrame, frameOf, acceptedReset}
+use Rattle.relay.specs.Relay.{channelAt, freshOf, counted, nextChannel, amplitudeIn, outputIn, acceptedFrame, frameOf, acceptedReset, acceptedChange}
 use Rattle.relay.proofs.Laws.{nextOf, fresh-accepted, fresh-is, frame-channel}
-use Rattle.history.specs.Calls.{Codes, Call, frame, reset, frameRefusedBy, acceptedFrames, deviceBit, theRelay}
+use Rattle.history.specs.Calls.{Codes, Call, frame, reset, change, frameRefusedBy, acceptedFrames, deviceBit, theRelay}
 use Rattle.history.specs.Settling.{latestBit, sinceRise}
-use Rattle.history.specs.History.{Input, Event, sampled, inputOf, channelHistory, inputAt, windowOf, windowAt, Enabled}
+use Rattle.history.specs.History.{Input, Event, sampled, inputOf, channelHistory, inputAt, levelsAt, windowOf, windowAt, Enabled}
 use Rattle.history.specs.Demand.{harmonicTest, SurelyBelowDrop, PossiblyBelowDrop, SurelyOver, PossiblyOver, LossMargins, OverMargins}
-use Rattle.history.specs.Demand.{levels, lossOf, overOf, LossOn, OverOn, relayAfter, lossAfter, overAfter, RelayIs}
+use Rattle.history.specs.Demand.{lossOf, overOf, madeWith, LossOn, OverOn, relayAfter, lossAfter, overAfter, RelayIs}
 use Rattle.history.specs.Demand.{FrameAnswered, CallAnswered, Demand3, AcceptedSettings, Demanded}
-use Rattle.history.proofs.Accepted.{frame-accepted, frame-refused, reset-accepted, reset-refused, settings-sound, settings-accepted}
+use Rattle.history.proofs.Accepted.{frame-accepted, frame-refused, reset-accepted, reset-refused, change-accepted, change-refused}
+use Rattle.history.proofs.Accepted.{settings-sound, settings-accepted}
 use Rattle.history.proofs.History.{_▷_, input-last}
 use Rattle.history.proofs.Settling.{latest-same, since-same}
 use Rattle.history.proofs.Clock.{clockOf, bit6In, ClockIs}
 use Rattle.history.proofs.Channel.{ChannelIs, loss-rule, over-rule, margins}
-use Rattle.history.proofs.Relay.{Is, relay-is, frame-is, history-frame, frames-same, frames-frame, device-same}
+use Rattle.history.proofs.Relay.{Is, relay-is, frame-is, history-frame, frames-same, frames-frame, device-same, current-at}
 use Rattle.history.proofs.Windows.{window-sound}
 
 -- a latch is on and the channel is enabled
@@ -65,9 +67,9 @@ module _ (settings : Settings) (ok : AcceptedSettings settings) where
             ∙ ap (min settled) (since-same (bit6In first) (deviceBit calls) (acceptedFrames calls) bits);
         slot = clock .placed ∙ ap (λ (n : ℕ). n % 8) (frames-same 0 calls);
         samples = λ c h. v .channel c h .samples ∙ ap (windowOf (channelHistory c calls)) (frames-same c calls);
-        lossLatch = λ c h. loss-rule _ _ (omega arith) (omega arith) (v .channel c h);
-        overLatch = λ c h. over-rule _ _ (omega arith) (omega arith) (v .channel c h);
-        kept = v .kept;
+        lossLatch = λ c h. loss-rule _ _ (omega arith) (omega arith) _ (v .channel c h);
+        overLatch = λ c h. over-rule _ _ (omega arith) (omega arith) _ (v .channel c h);
+        held = v .held;
       }
 
   -- ---- an accepted frame after the calls `past`
@@ -93,7 +95,7 @@ module _ (settings : Settings) (ok : AcceptedSettings settings) where
     next c = nextOf (relay past) (codes .list) enable c
 
     next-is : (c : ℕ) → c < 6
-        → ChannelIs (loss (levels settings c)) (over (levels settings c)) (channelHistory c calls) (clockOf (answer .relay)) (next c)
+        → ChannelIs loss over (madeWith settings c) (channelHistory c calls) (clockOf (answer .relay)) (next c)
     next-is c h =
         rw (frame-channel (relay past) (codes .list) enable c h) at (frame-is settings past (relay past) codes enable taken (is past) .channel c h)
 
@@ -115,35 +117,52 @@ module _ (settings : Settings) (ok : AcceptedSettings settings) where
     unfolding acceptedFrame outputIn
     output-is c h =
         rw (input-is c, bit-bits 6 bits c h)
-        (output-rule (next c .«loss_latch») (next c .«over_latch») (enabledIn enable c) (loss-rule _ _ (omega arith) (omega arith) (next-is c h))
-        (over-rule _ _ (omega arith) (omega arith) (next-is c h)))
+        (output-rule (next c .«loss_latch») (next c .«over_latch») (enabledIn enable c) (loss-rule _ _ (omega arith) (omega arith) _ (next-is c h))
+        (over-rule _ _ (omega arith) (omega arith) _ (next-is c h)))
 
     -- the clauses on Z
     sound : (c : ℕ) → c < 6 → (n : ℕ) → windowSound (windowAt (channelHistory c past ▷ sampled (input c)) n) ≡ true
     sound c h n = rw (history c) at (window-sound c h calls (suc n))
 
+    -- before the frame, and after it
+    old-loss : (c : ℕ) → c < 6 → T (lossAfter theRelay settings past c) ↔ LossOn settings c past
+    old-loss c h = loss-rule _ _ (omega arith) (omega arith) _ (is past .channel c h)
+
+    old-over : (c : ℕ) → c < 6 → T (overAfter theRelay settings past c) ↔ OverOn settings c past
+    old-over c h = over-rule _ _ (omega arith) (omega arith) _ (is past .channel c h)
+
+    -- the levels in frame n
+    abbrev levels : ℕ → ℕ → ChannelLevels
+    levels c n = levelsAt (madeWith settings c) (channelHistory c past ▷ sampled (input c)) n
+
+    is-current : (c : ℕ) → 3 ≤ c → (n : ℕ) → T (levels c n .current)
+    is-current c k n =
+        subst T (sym (subst (λ (es : List Event). levelsAt (madeWith settings c) es n .current ≡ leb 3 c) (history c)
+        (current-at c calls (madeWith settings c) refl n))) (le→leb 3 c k)
+
     loss-margins : (c : ℕ) → c < 6 → LossMargins settings c calls (lossAfter theRelay settings past c) (lossAfter theRelay settings calls c)
     loss-margins c h =
-        let drop : ℕ = levels settings c .drop in
         rw (history c)
-        (margins (lossOf settings c) (channelHistory c past) (input c) (omega arith) (SurelyBelowDrop drop) (PossiblyBelowDrop drop)
-        (λ n z. lt→ltb _ drop (loss-clear 1 (lit≤ tt) (lit≤ tt) _ (sound c h n) drop z))
-        (λ n t. loss-near 1 (lit≤ tt) (lit≤ tt) _ (sound c h n) drop (ltb→lt _ drop t))
-        (is past .channel c h .lossRun) (rw (history c) at (loss-rule _ _ (omega arith) (omega arith) (is calls .channel c h))))
+        (margins lossOf (madeWith settings c) (channelHistory c past) (input c) (omega arith) (λ l. SurelyBelowDrop (l .drop))
+        (λ l. PossiblyBelowDrop (l .drop))
+        (λ n z. lt→ltb _ (levels c n .drop) (loss-clear 1 (lit≤ tt) (lit≤ tt) _ (sound c h n) (levels c n .drop) z))
+        (λ n t. loss-near 1 (lit≤ tt) (lit≤ tt) _ (sound c h n) (levels c n .drop) (ltb→lt _ (levels c n .drop) t))
+        (old-loss c h) (rw (history c) at (loss-rule _ _ (omega arith) (omega arith) _ (is calls .channel c h))))
 
     over-margins : (c : ℕ) → 3 ≤ c → c < 6 → OverMargins settings c calls (overAfter theRelay settings past c) (overAfter theRelay settings calls c)
     over-margins c current h =
-        let pickup : ℕ = levels settings c .pickup in
-        let r : ℕ = levels settings c .restraint in
         let window : ℕ → List ℤ = λ n. windowAt (channelHistory c past ▷ sampled (input c)) n in
+        let pickup : ℕ → ℕ = λ n. levels c n .pickup in
+        let r : ℕ → ℕ = λ n. levels c n .restraint in
         rw (history c)
-        (margins (overOf settings c) (channelHistory c past) (input c) (omega arith) (SurelyOver pickup r) (PossiblyOver pickup r)
-        (λ n z. yes-and (leb 3 c) _ (le→leb 3 c current)
-        (yes-and (leb pickup (amplitudeOf 1 (window n))) (harmonicTest r (window n))
-        (le→leb pickup _ (over-clear 1 (lit≤ tt) (lit≤ tt) _ (sound c h n) pickup (z .0))) (z .1)))
-        (λ n t. let met = and-yes (leb pickup (amplitudeOf 1 (window n))) (harmonicTest r (window n)) (and-yes (leb 3 c) _ t .1) in
-        (over-near 1 (lit≤ tt) (lit≤ tt) _ (sound c h n) pickup (leb→le pickup _ (met .0)), met .1))
-        (is past .channel c h .overRun) (rw (history c) at (over-rule _ _ (omega arith) (omega arith) (is calls .channel c h))))
+        (margins overOf (madeWith settings c) (channelHistory c past) (input c) (omega arith) (λ l. SurelyOver (l .pickup) (l .restraint))
+        (λ l. PossiblyOver (l .pickup) (l .restraint))
+        (λ n z. yes-and (levels c n .current) _ (is-current c current n)
+        (yes-and (leb (pickup n) (amplitudeOf 1 (window n))) (harmonicTest (r n) (window n))
+        (le→leb (pickup n) _ (over-clear 1 (lit≤ tt) (lit≤ tt) _ (sound c h n) (pickup n) (z .0))) (z .1)))
+        (λ n t. let met = and-yes (leb (pickup n) (amplitudeOf 1 (window n))) (harmonicTest (r n) (window n)) (and-yes (levels c n .current) _ t .1) in
+        (over-near 1 (lit≤ tt) (lit≤ tt) _ (sound c h n) (pickup n) (leb→le (pickup n) _ (met .0)), met .1))
+        (old-over c h) (rw (history c) at (over-rule _ _ (omega arith) (omega arith) _ (is calls .channel c h))))
 
     frame-answered : FrameAnswered theRelay settings past calls (frameOf (relay past) (codes .list) enable)
     unfolding acceptedFrame
@@ -162,10 +181,11 @@ module _ (settings : Settings) (ok : AcceptedSettings settings) where
         })
 
   answered : (past : List Call) (call : Call) → CallAnswered theRelay settings past call
-  unfolding acceptedReset
+  unfolding acceptedReset acceptedChange
   answered past (frame codes enable) =
       (frame-answered past codes enable, frame-refused (relay past) (codes .list) enable (is past .sound))
   answered past (reset mask) = (λ e. rw (reset-accepted (relay past) mask (is past .sound) e), reset-refused (relay past) mask (is past .sound))
+  answered past (change new) = (λ e. rw (change-accepted (relay past) new (is past .sound) e), change-refused (relay past) new (is past .sound))
 
 -- Demand 3
 pub demand3 : Demanded theRelay

@@ -12,12 +12,13 @@ use mathlib.Core.List.{List}
 use lib.Dec.{T}
 use lib.Seq.{ext-getD}
 use borrow.Author.Tests.{eqb-true, eqb-false}
+use Rattle.relay.specs.declared.Levels.{Levels}
 use Rattle.relay.specs.declared.Settings.{Settings}
 use Rattle.relay.specs.declared.Relay.{Relay}
 use Rattle.relay.specs.declared.FrameAnswer.{FrameAnswer}
 use Rattle.frames.specs.Bits.{bitOf}
 use Rattle.relay.specs.Relay.{channelAt}
-use Rattle.history.specs.Calls.{Codes, Call, frame, reset, frameRefusedBy, resetRefusedBy, Implementation, theRelay}
+use Rattle.history.specs.Calls.{Codes, Call, frame, reset, change, frameRefusedBy, resetRefusedBy, changeRefusedBy, Implementation, theRelay}
 use Rattle.history.specs.Demand.{relayAfter, RelayIs, CallAnswered, AcceptedSettings, Demanded}
 use Rattle.history.proofs.Laws.{relay-says, answer-says}
 use Rattle.history.proofs.Theorem.{demand3}
@@ -76,7 +77,7 @@ module _ (d : Implementation) (meets : Demanded d) (settings : Settings) (ok : A
       let t : RelayIs d settings calls = relay-says d meets settings ok calls in
       let o : RelayIs theRelay settings calls = relay-says theRelay demand3 settings ok calls in
       record {
-        settings = t .kept ∙ sym (o .kept);
+        settings = t .held ∙ sym (o .held);
         remembered = t .remembered ∙ sym (o .remembered);
         age = t .age ∙ sym (o .age);
         slot = t .slot ∙ sym (o .slot);
@@ -110,5 +111,15 @@ module _ (d : Implementation) (meets : Demanded d) (settings : Settings) (ok : A
     where
       by : Dec (resetRefusedBy mask ≡ 0) → CallAnswered d settings past (reset mask) → CallAnswered theRelay settings past (reset mask)
           → d .reset (theirs past) mask .refusal ≡ theRelay .reset (ours past) mask .refusal
+      by (yes e) t o = t .0 e ∙ sym (o .0 e)
+      by (no e) t o = rw (t .1 e, o .1 e)
+
+  pub same-change : (past : List Call) (new : Levels) → d .change (theirs past) new .refusal ≡ theRelay .change (ours past) new .refusal
+  same-change past new =
+      by (ℕ-discrete (changeRefusedBy new) 0) (answer-says d meets settings ok past (change new))
+      (answer-says theRelay demand3 settings ok past (change new))
+    where
+      by : Dec (changeRefusedBy new ≡ 0) → CallAnswered d settings past (change new) → CallAnswered theRelay settings past (change new)
+          → d .change (theirs past) new .refusal ≡ theRelay .change (ours past) new .refusal
       by (yes e) t o = t .0 e ∙ sym (o .0 e)
       by (no e) t o = rw (t .1 e, o .1 e)

@@ -11,24 +11,26 @@ use mathlib.Core.List.{List, [], _∷_, _++_}
 use lib.Dec.{T}
 use lib.ListN.{getD}
 use Rattle.frames.specs.Bits.{bitOf}
+use Rattle.relay.specs.declared.ChannelLevels.{ChannelLevels}
 use Rattle.relay.specs.declared.Settings.{Settings}
 use Rattle.relay.specs.declared.Relay.{Relay}
 use Rattle.relay.specs.declared.FrameAnswer.{FrameAnswer}
+use Rattle.relay.specs.Settings.{Kind}
 use Rattle.history.specs.Calls.{Codes, Call, frame, reset, refusalOf, acceptedFrames, deviceBit, Implementation}
 use Rattle.history.specs.History.{Event, frames, FullRun}
 use Rattle.history.specs.Settling.{riseIn, latestBit, sinceRise}
 use Rattle.history.specs.Demand.{relayAfter, RelayIs, AcceptedSettings, Demanded}
-use Rattle.history.specs.WrongRelays.{runOf, GoesOn, numberOf, callsOf, Risen}
+use Rattle.history.specs.WrongRelays.{runOf, kindOf, GoesOn, numberOf, callsOf, Risen}
 use Rattle.history.proofs.Clock.{bit6In}
 use Rattle.history.proofs.Laws.{relay-says, answer-says}
 use Rattle.history.proofs.Relay.{after-end, frames-frame, frames-reset, device-same, bits-reset, bit-before, bit-last}
 use Rattle.history.proofs.Settling.{rise-same, since-same}
-use Rattle.history.proofs.WentOn.{historyOf, frames-are, run-ends, some}
+use Rattle.history.proofs.WentOn.{historyOf, madeOf, frames-are, run-ends, some}
 
 -- a full run at the end lies wholly from t + 72 on, where t is a rise
-after-settling : (es : List Event) (len j t : ℕ) → 0 < len → j + len ≡ frames es → FullRun es len j → t < frames es → T (riseIn (bit6In es) t)
+after-settling : (kind : Kind) (made : ChannelLevels) (es : List Event) (len j t : ℕ) → 0 < len → j + len ≡ frames es → FullRun kind made es len j → t < frames es → T (riseIn (bit6In es) t)
     → t + 72 ≤ j
-after-settling es len j t some e run h rise = by (decLt t j) (decLt j (t + 72))
+after-settling kind made es len j t some e run h rise = by (decLt t j) (decLt j (t + 72))
   where
     by : Dec (t < j) → Dec (j < t + 72) → t + 72 ≤ j
     by (yes before) (yes early) = absurd (run .each j (omega arith) (omega arith) .counted .noRise t (omega arith) (omega arith) rise)
@@ -49,7 +51,7 @@ module _ (d : Implementation) (meets : Demanded d) where
         arith,
         run .1,
         all,
-        after-settling (historyOf d meets g) (runOf (g .latch)) (run .0) t (some d meets g) (run .1) (run .2) (omega (arith, h, all)) rises,
+        after-settling (kindOf (g .latch)) (madeOf d meets g) (historyOf d meets g) (runOf (g .latch)) (run .0) t (some d meets g) (run .1) (run .2) (omega (arith, h, all)) rises,
       )
     where
       rises : T (riseIn (bit6In (historyOf d meets g)) t)

@@ -11,14 +11,14 @@ use Rattle.frames.specs.Bits.{bitOf}
 use Rattle.relay.specs.declared.Relay.{Relay}
 use Rattle.relay.specs.declared.FrameAnswer.{FrameAnswer}
 use Rattle.relay.specs.declared.ResetAnswer.{ResetAnswer}
-use Rattle.relay.specs.Relay.{freshOf, frameOf, resetOf}
+use Rattle.relay.specs.Relay.{freshOf, frameOf, resetOf, changeOf}
 use Rattle.history.specs.Calls.{Call, frame, reset, frameRefusedBy, resetRefusedBy, acceptedFrames, deviceBit, Implementation}
 use Rattle.history.specs.Settling.{riseIn}
 use Rattle.history.specs.Demand.{relayAfter, lossAfter}
 use Rattle.history.specs.WrongRelays.{Wrong, neverSettles, settlesAtFall, countsTheRise, forgetsAtReset, remembersRefused}
 use Rattle.history.proofs.Computed.{computed}
 use Rattle.history.proofs.HistoryCalls.{ones, still, frames512, calls}
-use Rattle.history.proofs.Refutations.{changed, resetting, withAge, withMemory, goes-on}
+use Rattle.history.proofs.Refutations.{framing, resetting, withAge, withMemory, from-on, up-to, goes-on}
 
 -- ---- ours, with one thing changed
 
@@ -28,21 +28,21 @@ unseen r codes enable = frameOf (withMemory true r) codes enable
 
 -- never settles again
 abbrev never : Implementation
-never = changed (λ r codes enable a. unseen r codes enable)
+never = framing (λ r codes enable a. unseen r codes enable)
 
 -- settles at the fall, and not at the rise
 abbrev falling : Implementation
-falling = changed (λ r codes enable a. unseen (withAge (cond (r .«device_on» && not (bitOf enable 6)) 0 (r .age)) r) codes enable)
+falling = framing (λ r codes enable a. unseen (withAge (cond (r .«device_on» && not (bitOf enable 6)) 0 (r .age)) r) codes enable)
 
 -- finds the old age in the rising frame, and settles from the next one on
 abbrev tardy : Implementation
-tardy = changed (λ r codes enable a.
+tardy = framing (λ r codes enable a.
     let b : FrameAnswer = unseen r codes enable in
     record { relay = withAge (a .relay .age) (b .relay); refusal = b .refusal; amplitudes = b .amplitudes; output = b .output })
 
 -- the same, and the age is set to 0 after all else, so that the next frame finds 0: with one rise its latches are those of ours
 abbrev late : Implementation
-late = changed (λ r codes enable a.
+late = framing (λ r codes enable a.
     let b : FrameAnswer = unseen r codes enable in
     record {
       relay = withAge (cond (bitOf enable 6 && not (r .«device_on»)) 0 (b .relay .age)) (b .relay);
@@ -67,6 +67,7 @@ gullible =
           cond (eqb (a .refusal) 0) a
           (record { relay = withMemory (bitOf enable 6) r; refusal = a .refusal; amplitudes = a .amplitudes; output = a .output });
       reset = resetOf;
+      change = changeOf;
     }
 
 -- ---- 72 frames with bit 6 off, of which the first is no rise, and n with it on: frame 72 is a rise
@@ -125,7 +126,7 @@ unsettled-ones =
     record {
       never-again =
           neverSettles (goes-on never (onwards 15) 0x7F on-taken (facts .never-on .0) (facts .never-on .1)) 72
-          (from-on (facts .numbers .0) (lit≤ tt), subst T (sym (facts .rises .0)) tt) (soon (facts .numbers .0) (lit< tt));
+          (from-on (facts .numbers .0) (lit≤ tt), subst T (sym (facts .rises .0)) tt) (up-to (facts .numbers .0) (lit< tt));
       at-the-fall = settlesAtFall ones (calls .lowest) (frames512 0x7F 2) (still 512) 0x3F (facts .off-taken) (λ t. t)
           (omega (arith, facts .fallen .0)) (omega (arith, facts .fallen .1));
       rise-counted =
@@ -144,12 +145,6 @@ unsettled-ones =
   where
     on-taken : frameRefusedBy (replicate 6 512) 0x7F ≡ 0
     on-taken = calls .middle-taken .0
-
-    from-on : {n m t : ℕ} → n ≡ m → t ≤ m → t ≤ n
-    from-on e h = omega arith
-
-    soon : {n m t : ℕ} → n ≡ m → m < t → n < t
-    soon e h = omega arith
 
     sooner : {n m t : ℕ} → n ≡ m → m + 1 < t → n + 1 < t
     sooner e h = omega arith

@@ -2,27 +2,29 @@
 -- that grows a run over a disabled frame meets it. Rests on Laws.
 use Prim.Native.Nat.{ℕ, suc, _+_, _≤_, _<_}
 use native.Mathlib.Omega.{arith}
-use mathlib.Core.Path.{_≡_, sym, ap, _∙_, subst}
+use mathlib.Core.Path.{_≡_, refl, sym, ap, _∙_, subst}
 use mathlib.Core.Bool.{_&&_}
 use mathlib.Core.List.{List}
 use lib.Dec.{T, leb, leb→le}
 use mir.Facts.{and-yes}
 use Rattle.frames.specs.Bits.{bitOf}
+use Rattle.relay.specs.declared.ChannelLevels.{ChannelLevels}
 use Rattle.relay.specs.declared.Settings.{Settings}
 use Rattle.history.specs.Calls.{Call, Implementation}
-use Rattle.history.specs.History.{Input, Event, inputOf, channelHistory, frames, inputAt, FullRun}
-use Rattle.history.specs.Demand.{OverOn, overAfter, AcceptedSettings, Demanded}
-use Rattle.history.specs.WrongRelays.{Latch, lossLatch, overLatch, latchAfter, runOf, GoesOn, numberOf, callsOf}
+use Rattle.history.specs.History.{Input, Event, inputOf, channelHistory, frames, inputAt, levelsAt, FullRun}
+use Rattle.history.specs.Demand.{madeWith, OverOn, overAfter, AcceptedSettings, Demanded}
+use Rattle.history.specs.WrongRelays.{Latch, lossLatch, overLatch, latchAfter, runOf, kindOf, GoesOn, numberOf, callsOf}
 use Rattle.history.proofs.History.{input-last}
 use Rattle.history.proofs.Laws.{relay-says, loss-near, over-near}
-use Rattle.history.proofs.Relay.{history-frame, frames-frame, frames-same}
+use Rattle.history.proofs.Relay.{history-frame, frames-frame, frames-same, current-at}
 
 module _ (d : Implementation) (meets : Demanded d) where
   -- a voltage's over latch is never on
   is-current : (settings : Settings) → AcceptedSettings settings → (calls : List Call) (c : ℕ) → c < 6 → T (overAfter d settings calls c) → 3 ≤ c
   is-current settings ok calls c h t =
       let on : OverOn settings c calls = relay-says d meets settings ok calls .overLatch c h .0 t in
-      leb→le 3 c (and-yes (leb 3 c) _ (on .1 .meets (on .0) (omega arith) (omega arith)) .0)
+      leb→le 3 c (subst T (current-at c calls (madeWith settings c) refl (on .0))
+      (and-yes (levelsAt (madeWith settings c) (channelHistory c calls) (on .0) .current) _ (on .1 .meets (on .0) (omega arith) (omega arith)) .0))
 
   module _ (g : GoesOn d) where
     abbrev pub historyOf : List Event
@@ -31,14 +33,17 @@ module _ (d : Implementation) (meets : Demanded d) where
     pub frames-are : frames historyOf ≡ suc (numberOf g)
     frames-are = frames-same (g .channel) (callsOf g) ∙ frames-frame (g .past) (g .codes) (g .enable) (g .taken)
 
-    abbrev Ends : ℕ → Type 0
-    Ends len = (j : ℕ) × (j + len ≡ frames historyOf) × FullRun historyOf len j
+    abbrev pub madeOf : ChannelLevels
+    madeOf = madeWith (g .settings) (g .channel)
 
-    pub run-ends : Ends (runOf (g .latch))
+    abbrev Ends : Latch → Type 0
+    Ends latch = (j : ℕ) × (j + runOf latch ≡ frames historyOf) × FullRun (kindOf latch) madeOf historyOf (runOf latch) j
+
+    pub run-ends : Ends (g .latch)
     run-ends = by (g .latch) (g .was) (g .now)
       where
         by : (latch : Latch) → ¬ T (latchAfter d latch (g .settings) (g .past) (g .channel))
-            → T (latchAfter d latch (g .settings) (callsOf g) (g .channel)) → Ends (runOf latch)
+            → T (latchAfter d latch (g .settings) (callsOf g) (g .channel)) → Ends latch
         by lossLatch was now =
             let run = loss-near d meets (g .settings) (g .accepted) (g .past) (g .codes) (g .enable) (g .taken) (g .channel) (g .isChannel) was now in
             (run .0, run .1, run .2)

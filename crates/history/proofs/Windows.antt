@@ -14,8 +14,8 @@ use Rattle.frames.specs.Codes.{sampleSound}
 use Rattle.frames.proofs.Samples.{sample-is-sound}
 use Rattle.phasor.specs.Window.{windowSound}
 use Rattle.frames.proofs.Ranges.{codes-below}
-use Rattle.history.specs.Calls.{Codes, Call, frame, reset, frameRefusedBy, isAccepted}
-use Rattle.history.specs.History.{Event, sampled, cleared, inputOf, channelHistory, inputAt, latestInSlot, windowOf}
+use Rattle.history.specs.Calls.{Codes, Call, frame, reset, change, frameRefusedBy, isAccepted}
+use Rattle.history.specs.History.{Event, sampled, cleared, changed, inputOf, ownLevels, channelHistory, inputAt, latestInSlot, windowOf}
 use Rattle.history.proofs.Accepted.{frame-codes}
 
 abbrev SamplesSound : List Event → Type 0
@@ -26,6 +26,7 @@ one-more : (b : Bool) (e : Event) (es : List Event) → (b ≡ true → SamplesS
 one-more true (sampled i) es s rest zero = s refl 0
 one-more true (sampled i) es s rest (suc n) = rest n
 one-more true cleared es s rest n = rest n
+one-more true (changed new) es s rest n = rest n
 one-more false e es s rest n = rest n
 
 code-sound : (c : ℕ) (codes : Codes) (enable : ℕ) → c < 6 → isAccepted (frame codes enable) ≡ true
@@ -41,6 +42,8 @@ history-sound c h (frame codes enable ∷ calls) =
     one-more (isAccepted (frame codes enable)) _ (channelHistory c calls) (code-sound c codes enable h) (history-sound c h calls)
 history-sound c h (reset mask ∷ calls) =
     one-more (isAccepted (reset mask) && bitOf mask c) cleared (channelHistory c calls) (λ e n. refl) (history-sound c h calls)
+history-sound c h (change new ∷ calls) =
+    one-more (isAccepted (change new)) (changed (ownLevels new c)) (channelHistory c calls) (λ e n. refl) (history-sound c h calls)
 
 latest-sound : (es : List Event) → SamplesSound es → (n k : ℕ) → sampleSound (latestInSlot es n k) ≡ true
 latest-sound es s zero k = refl

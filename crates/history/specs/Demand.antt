@@ -1,13 +1,13 @@
--- Demand 3 of document 01: one claim about every list of frames and resets, refused ones among them, from a fresh
--- relay. It is stated for any implementation; `Demanded theRelay` is the theorem.
--- Levels, lengths and tests are said here anew, from the settings as handed in, with 16, 4, 72, 10,700 and 100 as the
--- documents' own numbers and not by the relay's names. Said through the relay's definitions, the demand would be met by
--- a relay that reads another channel's level, or has another limit or length of a run, in definition and code alike.
--- Rests on the history read from the calls and on the exact amplitude.
-use Prim.Native.Nat.{ℕ, _+_, _-_, _*_, _%_, _≤_, _<_, min}
+-- Demand 3 of document 01: one claim about every list of frames, resets and changes of levels (document 02, Paper 6),
+-- refused ones among them, from a fresh relay. It is stated for any implementation; `Demanded theRelay` is the theorem.
+-- Lengths and tests are said here anew, as levels are in History, from the levels as handed in, with 16, 4, 72, 10,700
+-- and 100 as the documents' own numbers and not by the relay's names. Said through the relay's definitions, the demand
+-- would be met by a relay that reads another channel's level, or has another limit or length of a run, in definition
+-- and code alike. Rests on the history read from the calls and on the exact amplitude.
+use Prim.Native.Nat.{ℕ, _+_, _*_, _%_, _≤_, _<_, min}
 use mathlib.Core.Path.{_≡_}
 use mathlib.Core.Logic.{_⊎_, _↔_}
-use mathlib.Core.Bool.{Bool, true, _&&_, _||_, cond}
+use mathlib.Core.Bool.{Bool, true, _&&_, _||_}
 use mathlib.Core.List.{List, [], _∷_, _++_}
 use lib.IntN.{ℤ, pos, _+ℤ_, _-ℤ_}
 use lib.Dec.{T, ltb, leb, eqb}
@@ -20,12 +20,14 @@ use Rattle.relay.specs.declared.Settings.{Settings}
 use Rattle.relay.specs.declared.Relay.{Relay}
 use Rattle.relay.specs.declared.FrameAnswer.{FrameAnswer}
 use Rattle.relay.specs.declared.ResetAnswer.{ResetAnswer}
+use Rattle.relay.specs.declared.ChangeAnswer.{ChangeAnswer}
 use Rattle.relay.specs.Settings.{Kind}
 use Rattle.relay.specs.Sound.{soundOf}
 use Rattle.relay.specs.Relay.{channelAt}
-use Rattle.history.specs.Calls.{Call, frame, reset, refusalOf, acceptedFrames, deviceBit, Implementation, after}
+use Rattle.history.specs.Calls.{Call, frame, reset, change, refusalOf, acceptedFrames, deviceBit, inForce}
+use Rattle.history.specs.Calls.{Implementation, after}
 use Rattle.history.specs.Settling.{latestBit, sinceRise}
-use Rattle.history.specs.History.{Event, channelHistory, frames, windowOf, windowAt}
+use Rattle.history.specs.History.{Event, ownLevels, channelHistory, frames, levelsAt, windowOf, windowAt}
 use Rattle.history.specs.History.{Enabled, InEach, FullRun, LatchOn}
 
 -- Document 02, Paper 8, the test of a frame of an over run: "r is 0 or 100 times the second-harmonic amplitude is less
@@ -54,58 +56,60 @@ SurelyOver pickup r w = SurelyOverPickup pickup w × T (harmonicTest r w)
 abbrev pub PossiblyOver : ℕ → ℕ → List ℤ → Type 0
 PossiblyOver pickup r w = PossiblyOverPickup pickup w × T (harmonicTest r w)
 
--- The clauses on Z at a frame, the latest of `es`: whether the latch `was` on before it, and is on `now`.
-pub record Margins (kind : Kind) (Surely Possibly : List ℤ → Type 0) (es : List Event) (was now : Bool) : Type 0 where
+-- The clauses on Z at a frame, the latest of `es`: whether the latch `was` on before it, and is on `now`. The level
+-- "from which the margin of 2 is measured too, is the one it ran under" (Paper 6).
+pub record Margins (kind : Kind) (made : ChannelLevels) (Surely Possibly : ChannelLevels → List ℤ → Type 0)
+    (es : List Event) (was now : Bool) : Type 0 where
   -- "if Z ≥ pickup + 2 (over) or Z < drop − 2 (loss) in each frame of a full run, the latch is on after its last frame"
-  pub clearMargin : (j : ℕ) → j + kind .len ≡ frames es → FullRun es (kind .len) j
-      → InEach j (kind .len) (λ n. Surely (windowAt es n)) → T now
+  pub clearMargin : (j : ℕ) → j + kind .len ≡ frames es → FullRun kind made es (kind .len) j
+      → InEach j (kind .len) (λ n. Surely (levelsAt made es n) (windowAt es n)) → T now
   -- "where a latch went on in a frame, Z ≥ pickup − 2 or Z < drop + 2 held in each frame of the full run ending there"
   pub nearMargin : ¬ T was → T now
-      → (j : ℕ) × (j + kind .len ≡ frames es) × FullRun es (kind .len) j
-      × InEach j (kind .len) (λ n. Possibly (windowAt es n))
+      → (j : ℕ) × (j + kind .len ≡ frames es) × FullRun kind made es (kind .len) j
+      × InEach j (kind .len) (λ n. Possibly (levelsAt made es n) (windowAt es n))
 
--- A channel's levels, "a drop level for each channel and a pickup level for each current" (3, 4, 5), and Paper 8's
--- "Each current gets a restraint level r", and what follows from them for its two kinds of run; a voltage's over run
--- never meets its level.
+-- The two kinds of run. "16 (loss)" frames with "m < drop (loss)"; the drop is its own level.
+abbrev pub lossOf : Kind
+lossOf =
+    record {
+      len = 16;
+      meets = λ levels w. ltb (amplitudeOf 1 w) (levels .drop);
+      same = λ old new. eqb (old .drop) (new .drop);
+    }
+
+-- "4 (over)" frames with "m ≥ pickup (over)"; "The history adds that test to a full over run" (Paper 8). A voltage's
+-- over run never meets its level. Its own level is the pickup, with "r too, as part of the over run's own level".
+abbrev pub overOf : Kind
+overOf =
+    record {
+      len = 4;
+      meets = λ levels w.
+          levels .current && (leb (levels .pickup) (amplitudeOf 1 w) && harmonicTest (levels .restraint) w);
+      same = λ old new. eqb (old .pickup) (new .pickup) && eqb (old .restraint) (new .restraint);
+    }
+
 module _ (settings : Settings) (c : ℕ) where
-  abbrev pub levels : ChannelLevels
-  levels =
-      record {
-        drop = getD (settings .drop) c 0;
-        pickup = cond (leb 3 c) (getD (settings .pickup) (c - 3) 0) 0;
-        restraint = cond (leb 3 c) (getD (settings .restraint) (c - 3) 0) 0;
-        current = leb 3 c;
-      }
-
-  -- "16 (loss)" frames with "m < drop (loss)"
-  abbrev pub lossOf : Kind
-  lossOf = record { len = 16; meets = λ w. ltb (amplitudeOf 1 w) (levels .drop) }
-
-  -- "4 (over)" frames with "m ≥ pickup (over)"; "The history adds that test to a full over run" (Paper 8)
-  abbrev pub overOf : Kind
-  overOf =
-      record {
-        len = 4;
-        meets = λ w. levels .current && (leb (levels .pickup) (amplitudeOf 1 w) && harmonicTest (levels .restraint) w);
-      }
+  -- the levels that channel c of the relay was made with
+  abbrev pub madeWith : ChannelLevels
+  madeWith = ownLevels (settings .levels) c
 
   -- after these calls the rule has the latch on
   abbrev pub LossOn : List Call → Type 0
-  LossOn calls = LatchOn lossOf (channelHistory c calls)
+  LossOn calls = LatchOn lossOf madeWith (channelHistory c calls)
 
   abbrev pub OverOn : List Call → Type 0
-  OverOn calls = LatchOn overOf (channelHistory c calls)
+  OverOn calls = LatchOn overOf madeWith (channelHistory c calls)
 
   -- the clauses on Z at the last of these calls, a frame
   abbrev pub LossMargins : List Call → Bool → Bool → Type 0
   LossMargins calls =
-      Margins lossOf (SurelyBelowDrop (levels .drop)) (PossiblyBelowDrop (levels .drop)) (channelHistory c calls)
+      Margins lossOf madeWith (λ levels. SurelyBelowDrop (levels .drop)) (λ levels. PossiblyBelowDrop (levels .drop))
+      (channelHistory c calls)
 
   abbrev pub OverMargins : List Call → Bool → Bool → Type 0
   OverMargins calls =
-      let pickup : ℕ = levels .pickup in
-      let r : ℕ = levels .restraint in
-      Margins overOf (SurelyOver pickup r) (PossiblyOver pickup r) (channelHistory c calls)
+      Margins overOf madeWith (λ levels. SurelyOver (levels .pickup) (levels .restraint))
+      (λ levels. PossiblyOver (levels .pickup) (levels .restraint)) (channelHistory c calls)
 
 module _ (d : Implementation) (settings : Settings) where
   -- the relay after a list of calls from the fresh one: "nothing alters the relay between two calls"
@@ -134,8 +138,8 @@ module _ (d : Implementation) (settings : Settings) where
     -- "A loss latch, or a current's over latch, is on exactly when .."; a voltage's over latch never is
     pub lossLatch : (c : ℕ) → c < 6 → T (lossAfter calls c) ↔ LossOn settings c calls
     pub overLatch : (c : ℕ) → c < 6 → T (overAfter calls c) ↔ OverOn settings c calls
-    -- a relay keeps the settings it was made with
-    pub kept : relayAfter calls .settings ≡ settings
+    -- the settings that the relay holds are those in force (Paper 6)
+    pub held : relayAfter calls .settings ≡ record { levels = inForce (settings .levels) calls }
 
   -- What an accepted frame after the calls `past` answers. `calls` are these and the frame, which has the number
   -- acceptedFrames past.
@@ -171,6 +175,11 @@ module _ (d : Implementation) (settings : Settings) where
       let refusal : ℕ = refusalOf (reset mask) in
       (refusal ≡ 0 → answer .refusal ≡ 0)
       × (¬ (refusal ≡ 0) → answer ≡ record { relay = relayAfter past; refusal = refusal })
+  CallAnswered past (change new) =
+      let answer : ChangeAnswer = d .change (relayAfter past) new in
+      let refusal : ℕ = refusalOf (change new) in
+      (refusal ≡ 0 → answer .refusal ≡ 0)
+      × (¬ (refusal ≡ 0) → answer ≡ record { relay = relayAfter past; refusal = refusal })
 
   -- Demand 3, "a single claim about a whole list": the relay after each part of it from the start, and the answer of
   -- each call in it.
@@ -185,9 +194,11 @@ module _ (d : Implementation) (settings : Settings) where
 -- 10,700"; "a restraint level r, 1 to 100 or 0 for off". A relay that refuses some of them does not meet the demand
 -- (`made`).
 pub record AcceptedSettings (settings : Settings) : Type 0 where
-  pub drops : (c : ℕ) → c < 6 → (1 ≤ getD (settings .drop) c 0) × (getD (settings .drop) c 0 ≤ 10700)
-  pub pickups : (k : ℕ) → k < 3 → (1 ≤ getD (settings .pickup) k 0) × (getD (settings .pickup) k 0 ≤ 10700)
-  pub restraints : (k : ℕ) → k < 3 → getD (settings .restraint) k 0 ≤ 100
+  pub drops : (c : ℕ) → c < 6
+      → (1 ≤ getD (settings .levels .drop) c 0) × (getD (settings .levels .drop) c 0 ≤ 10700)
+  pub pickups : (k : ℕ) → k < 3
+      → (1 ≤ getD (settings .levels .pickup) k 0) × (getD (settings .levels .pickup) k 0 ≤ 10700)
+  pub restraints : (k : ℕ) → k < 3 → getD (settings .levels .restraint) k 0 ≤ 100
 
 -- Demand 3: "from a fresh relay made with accepted settings", every list, "the empty one too"; that making the relay
 -- accepts them is part of it. The code's arrays hold six drops, three pickups and three restraints, and its bytes are

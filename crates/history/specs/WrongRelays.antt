@@ -1,35 +1,49 @@
 -- Wrong relays: those that document 01 names under "What a promise says here", 3, two of its "Mistakes to keep out",
--- three more, and those that restrain or settle wrongly (document 02, Papers 8 and 5). Each is said of any
--- implementation by the one thing that it does wrong in lists from a relay made with accepted settings, whatever else
--- it does; for some of them one place where it shows is enough. None meets demand 3. Rests on the lists of calls.
+-- three more, and those that restrain, settle or take new levels wrongly (document 02, Papers 8, 5 and 6). Each is said
+-- of any implementation by the one thing that it does wrong in lists from a relay made with accepted settings, whatever
+-- else it does; for some of them one place where it shows is enough. Where document 01's and Paper 8's are said of
+-- every list, it is every list that holds no change of levels: they may do what they like in others. None meets demand
+-- 3. Rests on the lists of calls.
 use Prim.Native.Nat.{ℕ, suc, _+_, _*_, _≤_, _<_}
 use mathlib.Core.Path.{_≡_}
-use mathlib.Core.Bool.{Bool, _&&_, _||_}
+use mathlib.Core.Bool.{Bool, true, false, _&&_, _||_}
 use mathlib.Core.List.{List, [], _∷_, _++_}
 use lib.IntN.{ℤ}
 use lib.Dec.{T, ltb, leb, eqb}
 use lib.ListN.{getD, replicate}
 use Rattle.frames.specs.Bits.{bitOf}
 use Rattle.phasor.specs.Cordic.{amplitudeOf}
+use Rattle.relay.specs.declared.ChannelLevels.{ChannelLevels}
+use Rattle.relay.specs.declared.Levels.{Levels}
 use Rattle.relay.specs.declared.Settings.{Settings}
 use Rattle.relay.specs.declared.Relay.{Relay}
 use Rattle.relay.specs.Settings.{Kind}
 use Rattle.relay.specs.Relay.{channelAt, amplitudeIn}
-use Rattle.history.specs.Calls.{Codes, Call, frame, reset, refusalOf, acceptedFrames, deviceBit, Implementation}
+use Rattle.history.specs.Calls.{Codes, Call, frame, reset, change, refusalOf, acceptedFrames, deviceBit, inForce}
+use Rattle.history.specs.Calls.{Implementation}
 use Rattle.history.specs.Settling.{riseIn}
-use Rattle.history.specs.History.{Event, channelHistory, frames, resets, resetsBefore, windowAt}
-use Rattle.history.specs.History.{Counted, InEach, FullRun, LatchOn}
-use Rattle.history.specs.Demand.{harmonicTest, relayAfter, lossAfter, overAfter, AcceptedSettings}
+use Rattle.history.specs.History.{Event, ownLevels, channelHistory, frames, resets, resetsBefore, levelsAt}
+use Rattle.history.specs.History.{windowAt, Counted, InEach, FullRun, FullRunMeeting, LatchOn}
+use Rattle.history.specs.Demand.{harmonicTest, lossOf, overOf, madeWith, relayAfter, lossAfter, overAfter}
+use Rattle.history.specs.Demand.{AcceptedSettings}
+
+-- no change of levels stands in the list, accepted or refused
+abbrev pub noChange : List Call → Bool
+noChange [] = true
+noChange (frame codes enable ∷ calls) = noChange calls
+noChange (reset mask ∷ calls) = noChange calls
+noChange (change new ∷ calls) = false
 
 -- P holds of each accepted frame in these lists: of the relay that it is given, its codes and its enable byte
 abbrev pub EachFrame : Implementation → (Relay → List ℕ → ℕ → Type 0) → Type 0
-EachFrame d P = (settings : Settings) → AcceptedSettings settings → (past : List Call) (codes : Codes) (enable : ℕ)
-    → refusalOf (frame codes enable) ≡ 0 → P (relayAfter d settings past) (codes .list) enable
+EachFrame d P = (settings : Settings) → AcceptedSettings settings → (past : List Call) → noChange past ≡ true
+    → (codes : Codes) (enable : ℕ) → refusalOf (frame codes enable) ≡ 0
+    → P (relayAfter d settings past) (codes .list) enable
 
 -- and the same of each accepted reset: of the relay that it is given and its mask
 abbrev pub EachReset : Implementation → (Relay → ℕ → Type 0) → Type 0
-EachReset d P = (settings : Settings) → AcceptedSettings settings → (past : List Call) (mask : ℕ)
-    → refusalOf (reset mask) ≡ 0 → P (relayAfter d settings past) mask
+EachReset d P = (settings : Settings) → AcceptedSettings settings → (past : List Call) → noChange past ≡ true
+    → (mask : ℕ) → refusalOf (reset mask) ≡ 0 → P (relayAfter d settings past) mask
 
 -- the loss latches are the same in two relays
 abbrev pub SameLatches : Relay → Relay → Type 0
@@ -39,26 +53,32 @@ SameLatches r s = (c : ℕ) → c < 6 → channelAt r c .«loss_latch» ≡ chan
 -- them back
 abbrev pub FixedLatches : Implementation → Type 0
 FixedLatches d =
-    (settings : Settings) → AcceptedSettings settings → (past : List Call) (one two : Codes) (enableOne enableTwo : ℕ)
+    (settings : Settings) → AcceptedSettings settings → (past : List Call) → noChange past ≡ true
+    → (one two : Codes) (enableOne enableTwo : ℕ)
     → refusalOf (frame one enableOne) ≡ 0 → refusalOf (frame two enableTwo) ≡ 0
     → (let calls : List Call = past ++ (frame one enableOne ∷ []) in
     let r : Relay = relayAfter d settings calls in
     Counted (channelHistory 0 calls) (acceptedFrames past) → SameLatches (d .frame r (two .list) enableTwo .relay) r)
 
+-- so many frames with such windows, under levels that are not changed
+abbrev pub runOfWindows : ℕ → (List ℤ → Bool) → Kind
+runOfWindows len test = record { len = len; meets = λ levels w. test w; same = λ old new. true }
+
 -- The over latch of channel c goes on by another test than the demand's: where a full over run (document 01's term)
 -- that meets the test lies after the last reset that names the channel, the latch is on.
 abbrev pub TripsBy : Implementation → ℕ → (Settings → List ℤ → Bool) → Type 0
 TripsBy d c test =
-    (settings : Settings) → AcceptedSettings settings → (calls : List Call)
-    → LatchOn (record { len = 4; meets = test settings }) (channelHistory c calls) → T (overAfter d settings calls c)
+    (settings : Settings) → AcceptedSettings settings → (calls : List Call) → noChange calls ≡ true
+    → LatchOn (runOfWindows 4 (test settings)) (madeWith settings c) (channelHistory c calls)
+    → T (overAfter d settings calls c)
 
 -- tests of current k's window, channel k + 3: Paper 8's test by its own r; m ≥ pickup alone; and with the test by the r
 -- of current l
 abbrev pub testedBy : ℕ → Settings → List ℤ → Bool
-testedBy k settings w = harmonicTest (getD (settings .restraint) k 0) w
+testedBy k settings w = harmonicTest (getD (settings .levels .restraint) k 0) w
 
 abbrev pub overPickup : ℕ → Settings → List ℤ → Bool
-overPickup k settings w = leb (getD (settings .pickup) k 0) (amplitudeOf 1 w)
+overPickup k settings w = leb (getD (settings .levels .pickup) k 0) (amplitudeOf 1 w)
 
 abbrev pub overBy : ℕ → ℕ → Settings → List ℤ → Bool
 overBy l k settings w = overPickup k settings w && testedBy l settings w
@@ -66,12 +86,12 @@ overBy l k settings w = overPickup k settings w && testedBy l settings w
 -- with ≤ in place of <, and with the third harmonic in place of the second
 abbrev pub overAtMost : ℕ → Settings → List ℤ → Bool
 overAtMost k settings w =
-    let r : ℕ = getD (settings .restraint) k 0 in
+    let r : ℕ = getD (settings .levels .restraint) k 0 in
     overPickup k settings w && (eqb r 0 || leb (100 * amplitudeOf 2 w) (r * amplitudeOf 1 w))
 
 abbrev pub overByThird : ℕ → Settings → List ℤ → Bool
 overByThird k settings w =
-    let r : ℕ = getD (settings .restraint) k 0 in
+    let r : ℕ = getD (settings .levels .restraint) k 0 in
     overPickup k settings w && (eqb r 0 || ltb (100 * amplitudeOf 3 w) (r * amplitudeOf 1 w))
 
 -- Five successive frames that a full run could hold, the last frames after the last reset that names the channel; m ≥
@@ -79,38 +99,49 @@ overByThird k settings w =
 -- left the run as it was.
 abbrev pub KeepsRun : Implementation → ℕ → Type 0
 KeepsRun d k =
-    (settings : Settings) → AcceptedSettings settings → (calls : List Call) (j : ℕ)
+    (settings : Settings) → AcceptedSettings settings → (calls : List Call) → noChange calls ≡ true → (j : ℕ)
     → (let es : List Event = channelHistory (k + 3) calls in
     let fed : ℕ → Bool = λ n. overBy k k settings (windowAt es n) in
-    j + 5 ≡ frames es → FullRun es 5 j → resetsBefore es j ≡ resets es → InEach j 3 (λ n. T (fed n))
-    → T (overPickup k settings (windowAt es (j + 3))) → ¬ T (fed (j + 3)) → T (fed (j + 4))
-    → T (overAfter d settings calls (k + 3)))
+    j + 5 ≡ frames es → FullRun overOf (madeWith settings (k + 3)) es 5 j → resetsBefore es j ≡ resets es
+    → InEach j 3 (λ n. T (fed n)) → T (overPickup k settings (windowAt es (j + 3))) → ¬ T (fed (j + 3))
+    → T (fed (j + 4)) → T (overAfter d settings calls (k + 3)))
 
 -- The loss latch of current k goes on only by a full run in each frame of which the test of restraint holds too.
 abbrev pub lossTested : Settings → ℕ → Kind
 lossTested settings k =
-    record {
-      len = 16;
-      meets = λ w. ltb (amplitudeOf 1 w) (getD (settings .drop) (k + 3) 0) && testedBy k settings w;
-    }
+    runOfWindows 16
+    (λ w. ltb (amplitudeOf 1 w) (getD (settings .levels .drop) (k + 3) 0) && testedBy k settings w)
 
 abbrev pub RestrainsLoss : Implementation → ℕ → Type 0
 RestrainsLoss d k =
-    (settings : Settings) → AcceptedSettings settings → (calls : List Call) → T (lossAfter d settings calls (k + 3))
-    → LatchOn (lossTested settings k) (channelHistory (k + 3) calls)
+    (settings : Settings) → AcceptedSettings settings → (calls : List Call) → noChange calls ≡ true
+    → T (lossAfter d settings calls (k + 3))
+    → LatchOn (lossTested settings k) (madeWith settings (k + 3)) (channelHistory (k + 3) calls)
 
 -- A channel's two latches, and the frames of a full run of each: "16 (loss) or 4 (over)"
 pub data Latch : Type 0 where
   lossLatch : Latch
   overLatch : Latch
 
+abbrev pub latchIn : Latch → Relay → ℕ → Bool
+latchIn lossLatch r c = channelAt r c .«loss_latch»
+latchIn overLatch r c = channelAt r c .«over_latch»
+
 abbrev pub latchAfter : Implementation → Latch → Settings → List Call → ℕ → Bool
-latchAfter d lossLatch = lossAfter d
-latchAfter d overLatch = overAfter d
+latchAfter d latch settings calls c = latchIn latch (relayAfter d settings calls) c
 
 abbrev pub runOf : Latch → ℕ
 runOf lossLatch = 16
 runOf overLatch = 4
+
+-- its kind of run; and that two levels of a channel differ in what is its run's own level (Paper 6)
+abbrev pub kindOf : Latch → Kind
+kindOf lossLatch = lossOf
+kindOf overLatch = overOf
+
+abbrev pub Differ : Latch → ChannelLevels → ChannelLevels → Type 0
+Differ lossLatch old new = ¬ (old .drop ≡ new .drop)
+Differ overLatch old new = ¬ ((old .pickup ≡ new .pickup) × (old .restraint ≡ new .restraint))
 
 -- In some accepted frame, after the calls `past`, a latch goes on that was off before it.
 pub record GoesOn (d : Implementation) : Type 0 where
@@ -137,6 +168,61 @@ module _ {d : Implementation} (g : GoesOn d) where
   -- frame t, that one or one before it, is a rise (Paper 5)
   abbrev pub Risen : ℕ → Type 0
   Risen t = (t ≤ numberOf) × T (riseIn (deviceBit callsOf) t)
+
+  -- An accepted change gave the run's own level another value, and since then, that frame included, fewer frames came
+  -- than a full run has (Paper 6).
+  pub record ChangedLately : Type 0 where
+    pub before : List Call
+    pub new : Levels
+    pub between : List Call
+    pub isPast : g .past ≡ before ++ (change new ∷ between)
+    pub accepted : refusalOf (change new) ≡ 0
+    pub another : Differ (g .latch) (ownLevels (inForce (g .settings .levels) before) (g .channel))
+        (ownLevels new (g .channel))
+    pub few : acceptedFrames between + 1 < runOf (g .latch)
+
+  -- Frame n, one of the last frames that a full run ending with that frame has, did not meet the level in force in it.
+  pub record Unmet (n : ℕ) : Type 0 where
+    pub upTo : n ≤ numberOf
+    pub inRun : numberOf < n + runOf (g .latch)
+    pub fails : ¬ T (kindOf (g .latch) .meets
+        (levelsAt (madeWith (g .settings) (g .channel)) (channelHistory (g .channel) callsOf) n)
+        (windowAt (channelHistory (g .channel) callsOf) n))
+
+-- Some accepted change of levels, after the calls `past` (Paper 6); for an implementation d, the relay that it is given
+-- and the one that it hands back.
+pub record Changing (d : Implementation) : Type 0 where
+  pub settings : Settings
+  pub accepted : AcceptedSettings settings
+  pub past : List Call
+  pub new : Levels
+  pub taken : refusalOf (change new) ≡ 0
+
+module _ {d : Implementation} (g : Changing d) where
+  abbrev pub given : Relay
+  given = relayAfter d (g .settings) (g .past)
+
+  abbrev pub changedTo : Relay
+  changedTo = d .change given (g .new) .relay
+
+-- A change that leaves the own level of a channel's run as it is comes between two frames of a full run. The run meets
+-- its level, and yet the latch is off.
+pub record ClearsRun (d : Implementation) (latch : Latch) : Type 0 where
+  pub settings : Settings
+  pub accepted : AcceptedSettings settings
+  pub before : List Call
+  pub new : Levels
+  pub between : List Call
+  pub taken : refusalOf (change new) ≡ 0
+  pub channel : ℕ
+  pub isChannel : channel < 6
+  pub own : ¬ Differ latch (ownLevels (inForce (settings .levels) before) channel) (ownLevels new channel)
+  pub first : ℕ
+  pub begun : first < acceptedFrames before
+  pub notEnded : acceptedFrames before < first + runOf latch
+  pub run : FullRunMeeting (kindOf latch) (madeWith settings channel)
+      (channelHistory channel (before ++ (change new ∷ between))) first
+  pub off : ¬ T (latchAfter d latch settings (before ++ (change new ∷ between)) channel)
 
 pub data Wrong (d : Implementation) : Type 0 where
   -- "a relay that never trips"
@@ -192,3 +278,23 @@ pub data Wrong (d : Implementation) : Type 0 where
       (enable : ℕ) → ¬ (refusalOf (frame codes enable) ≡ 0)
       → (let r : Relay = relayAfter d settings past in
       ¬ (d .frame r (codes .list) enable .relay .«device_on» ≡ r .«device_on»)) → Wrong d
+  -- Paper 6: a change clears a latch, or turns one on, as where it judges the latest frames by the new level
+  movesLatch : (g : Changing d) (latch : Latch) (c : ℕ) → c < 6
+      → ¬ (latchIn latch (changedTo g) c ≡ latchIn latch (given g) c) → Wrong d
+  -- keeps a run across a changed level, always or where the latest window meets the new one: a latch goes on too early
+  keepsChanged : (g : GoesOn d) → ChangedLately g → Wrong d
+  -- clears a run whose own level is equal: the loss run where only the pickup moved, the over run where the drop did
+  clearsRun : (latch : Latch) → ClearsRun d latch → Wrong d
+  -- judges an old run by the new level, frames among them that did not meet the level that they ran under; such a frame
+  -- is all that is asked
+  judgesOld : (g : GoesOn d) (n : ℕ) → Unmet g n → Wrong d
+  -- a change restarts age, or alters it in another way; or it alters what the relay remembers, so that it settles anew
+  agesAnew : (g : Changing d) → ¬ (changedTo g .age ≡ given g .age) → Wrong d
+  forgetsAtChange : (g : Changing d) → ¬ (changedTo g .«device_on» ≡ given g .«device_on») → Wrong d
+  -- forgets the change at a reset: an accepted reset alters the settings
+  forgetsChange : (settings : Settings) → AcceptedSettings settings → (past : List Call) (mask : ℕ)
+      → refusalOf (reset mask) ≡ 0
+      → (let r : Relay = relayAfter d settings past in
+      ¬ (d .reset r mask .relay .settings ≡ r .settings)) → Wrong d
+  -- refuses some levels that the documents accept
+  refusesChange : (g : Changing d) → ¬ (d .change (given g) (g .new) .refusal ≡ 0) → Wrong d

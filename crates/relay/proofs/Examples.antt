@@ -41,11 +41,11 @@ outputs r (codes ∷ more) =
 
 -- equal drop levels and equal pickup levels
 abbrev pub equalLevels : ℕ → ℕ → Settings
-equalLevels drop pickup = record { drop = replicate 6 drop; pickup = replicate 3 pickup; restraint = replicate 3 0 }
+equalLevels drop pickup = record { levels = record { drop = replicate 6 drop; pickup = replicate 3 pickup; restraint = replicate 3 0 } }
 
 -- nine levels and three restraints, no two of them equal
 abbrev nine : Settings
-nine = record { drop = 1 ∷ 2 ∷ 3 ∷ 4 ∷ 5 ∷ 6 ∷ []; pickup = 7 ∷ 8 ∷ 9 ∷ []; restraint = 10 ∷ 11 ∷ 12 ∷ [] }
+nine = record { levels = record { drop = 1 ∷ 2 ∷ 3 ∷ 4 ∷ 5 ∷ 6 ∷ []; pickup = 7 ∷ 8 ∷ 9 ∷ []; restraint = 10 ∷ 11 ∷ 12 ∷ [] } }
 
 -- the levels of one channel
 abbrev own : ℕ → ℕ → ℕ → Bool → ChannelLevels
@@ -191,7 +191,7 @@ latched r = bitsBelow 6 (λ c. channelAt r c .«loss_latch»)
 pub record Examples : Type 0 where
   -- "That wave steady on channel 3 from frame 0, pickup 1603: over latch in frame 75. Pickup 1604: never."
   -- "Code 512 throughout, drop 1: loss latches in frame 87; in frame 86 none." Channel 4 has the wave and pickup 1604; 0, 1, 2 and 5 have code 512.
-  figures : outputs (freshOf (record { drop = replicate 6 1; pickup = 1603 ∷ 1604 ∷ 1604 ∷ []; restraint = replicate 3 0 }) .relay) (waves 11)
+  figures : outputs (freshOf (record { levels = record { drop = replicate 6 1; pickup = 1603 ∷ 1604 ∷ 1604 ∷ []; restraint = replicate 3 0 } }) .relay) (waves 11)
       ≡ replicate 75 0 ++ replicate 12 8 ++ (47 ∷ [])
   -- a fresh relay, at the ends of "1 to 10,700"; refusal 1 with the all-zero relay
   fresh : freshOf (equalLevels 1 10700)
@@ -205,19 +205,19 @@ pub record Examples : Type 0 where
       age = 0;
       slot = 0;
       «device_on» = true;
-      settings = record { drop = 1 ∷ 2 ∷ 3 ∷ 4 ∷ 5 ∷ 6 ∷ []; pickup = 7 ∷ 8 ∷ 9 ∷ []; restraint = 10 ∷ 11 ∷ 12 ∷ [] };
+      settings = record { levels = record { drop = 1 ∷ 2 ∷ 3 ∷ 4 ∷ 5 ∷ 6 ∷ []; pickup = 7 ∷ 8 ∷ 9 ∷ []; restraint = 10 ∷ 11 ∷ 12 ∷ [] } };
     };
     refusal = 0;
   }
   -- whichever level is out of range, and however
-  drop-low : freshOf (record { drop = 0 ∷ replicate 5 1; pickup = replicate 3 1; restraint = replicate 3 0 })
+  drop-low : freshOf (record { levels = record { drop = 0 ∷ replicate 5 1; pickup = replicate 3 1; restraint = replicate 3 0 } })
       ≡ record { relay = allZero; refusal = 1 }
-  drop-high : freshOf (record { drop = 10701 ∷ replicate 5 1; pickup = replicate 3 1; restraint = replicate 3 0 })
+  drop-high : freshOf (record { levels = record { drop = 10701 ∷ replicate 5 1; pickup = replicate 3 1; restraint = replicate 3 0 } })
       ≡ record { relay = allZero; refusal = 1 }
-  pickup-low : freshOf (record { drop = replicate 6 819; pickup = 3413 ∷ 3413 ∷ 0 ∷ []; restraint = replicate 3 0 })
+  pickup-low : freshOf (record { levels = record { drop = replicate 6 819; pickup = 3413 ∷ 3413 ∷ 0 ∷ []; restraint = replicate 3 0 } })
       ≡ record { relay = allZero; refusal = 1 }
   -- "a drop level for each channel and a pickup level for each current": each channel has its own
-  own-levels : table 6 (levelsOf nine)
+  own-levels : table 6 (levelsOf (nine .levels))
       ≡ own 1 0 0 false ∷ own 2 0 0 false ∷ own 3 0 0 false ∷ own 4 7 10 true ∷ own 5 8 11 true ∷ own 6 9 12 true ∷ []
   -- the bench program's example, amplitudes 400 0 0 0 0 0: the sample goes to slot 0, the slot advances and age is 1
   first : frameOf (relay 0 0 still) (612 ∷ replicate 5 512) 127 ≡ record {

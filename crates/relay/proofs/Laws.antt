@@ -24,12 +24,12 @@ use Rattle.relay.specs.declared.Settings.{Settings}
 use Rattle.relay.specs.declared.Relay.{Relay}
 use Rattle.relay.specs.declared.FreshAnswer.{FreshAnswer}
 use Rattle.frames.specs.Bits.{bitOf, enabledIn}
-use Rattle.relay.specs.Settings.{isCurrent, levelsSound, restraintsSound, settingsSound, levelsOf, unrestrainedBy}
+use Rattle.relay.specs.Settings.{isCurrent, nineSound, restraintsSound, settingsSound, levelsOf, unrestrainedBy}
 use Rattle.relay.specs.Settings.{lossFrames, overFrames, settled, loss}
 use Rattle.relay.specs.Channel.{noChannel, freshChannel, clearedOf, windowAfter, runAfter, nextRun, channelAfter}
 use Rattle.relay.proofs.Sound.{Sound, sound-says, says-sound}
 use Rattle.relay.specs.Sound.{overSound, channelSound, channelsSound, soundOf}
-use Rattle.relay.specs.Relay.{channelAt, unusedRelay, freshRelay, zeroRelay, freshRefusal, freshOf}
+use Rattle.relay.specs.Relay.{channelAt, unusedRelay, freshRelay, zeroRelay, levelRefusal, freshRefusal, freshOf}
 use Rattle.relay.specs.Relay.{foundBy, ageFound, counted, ageAfter, slotAfter}
 use Rattle.relay.specs.Relay.{nextChannel, acceptedFrame, refusedFrame, inputRefusal, frameRefusal, frameOf}
 use Rattle.relay.specs.Relay.{resetChannel, acceptedReset, refusedReset, maskRefusal, resetRefusal, resetOf}
@@ -37,7 +37,7 @@ use Rattle.relay.specs.Relay.{resetChannel, acceptedReset, refusedReset,
 -- ---- what a call's answer is
 
 -- settings that are accepted are in range, and the answer is the fresh relay
-two-checks : (a b : Bool) → _≡_ {A = ℕ} (cond a (cond b 0 20) 1) 0 → a && b ≡ true
+pub two-checks : (a b : Bool) → _≡_ {A = ℕ} (cond a (cond b 0 20) 1) 0 → a && b ≡ true
 two-checks true true e = refl
 two-checks true false e = absurd (omega arith)
 two-checks false b e = absurd (omega arith)
@@ -53,13 +53,13 @@ not-refused r s n e = by (eqb n 0) refl e
     by false q e = e
 
 pub fresh-accepted : (s : Settings) → freshOf s .refusal ≡ accepted → settingsSound s ≡ true
-unfolding freshOf freshRefusal
+unfolding freshOf levelRefusal
 fresh-accepted s e =
-    two-checks (levelsSound s) (restraintsSound (s .restraint)) (not-refused (freshRelay s) zeroRelay (freshRefusal s) e)
+    two-checks (nineSound (s .levels)) (restraintsSound (s .levels .restraint)) (not-refused (freshRelay s) zeroRelay (freshRefusal s) e)
 
 pub fresh-is : (s : Settings) → settingsSound s ≡ true → freshOf s ≡ record { relay = freshRelay s; refusal = accepted }
-unfolding freshOf freshRefusal
-fresh-is s e = rw (and-left (levelsSound s) (restraintsSound (s .restraint)) e, and-right (levelsSound s) (restraintsSound (s .restraint)) e)
+unfolding freshOf levelRefusal
+fresh-is s e = rw (and-left (nineSound (s .levels)) (restraintsSound (s .levels .restraint)) e, and-right (nineSound (s .levels)) (restraintsSound (s .levels .restraint)) e)
 
 -- of every relay: a frame with no refusal is what an accepted one is, and any other hands the relay back as it was given
 pub frame-taken : (r : Relay) (codes : List ℕ) (enable : ℕ) → frameRefusal r codes enable ≡ 0 → frameOf r codes enable ≡ acceptedFrame r codes enable
@@ -69,6 +69,15 @@ frame-taken r codes enable e = rw e
 pub frame-left : (r : Relay) (codes : List ℕ) (enable : ℕ) → ¬ (frameRefusal r codes enable ≡ 0) → frameOf r codes enable .relay ≡ r
 unfolding frameOf refusedFrame
 frame-left r codes enable e = rw (ne-eqb (frameRefusal r codes enable) 0 e)
+
+-- 2 on a relay that is not sound, whatever else is wrong
+pub frame-unsound : (r : Relay) (codes : List ℕ) (enable : ℕ) → soundOf r ≡ false → frameOf r codes enable ≡ refusedFrame r 2
+unfolding frameOf frameRefusal
+frame-unsound r codes enable s = rw s
+
+pub reset-unsound : (r : Relay) (mask : ℕ) → soundOf r ≡ false → resetOf r mask ≡ refusedReset r 2
+unfolding resetOf resetRefusal
+reset-unsound r mask s = rw s
 
 -- on a sound relay codes, enable byte and mask alone decide
 pub frame-accepted : (r : Relay) (codes : List ℕ) (enable : ℕ) → soundOf r ≡ true → inputRefusal codes enable ≡ 0
@@ -142,7 +151,7 @@ channel-sound levels slot counted enabled code ch h s =
     let over : overSound (levels .current) ch ≡ true = and-right (samples && leb (ch .«loss_run») lossFrames) _ s in
     and-true _ _
     (and-true _ _ (window-set (ch .samples) slot (sampleOf code) (and-left _ (leb (ch .«loss_run») lossFrames) two) (sample-is-sound code h))
-    (le-leb _ lossFrames (run-le lossFrames (ch .«loss_run») counted (enabled && loss levels .meets window) loss-run)))
+    (le-leb _ lossFrames (run-le lossFrames (ch .«loss_run») counted (enabled && loss .meets levels window) loss-run)))
     (over-sound (levels .current) (leb (levels .pickup) (amplitudeOf 1 window) && unrestrainedBy (levels .restraint) window) counted enabled
     (ch .«over_latch») (ch .«over_run») _ refl over)
 
@@ -194,7 +203,7 @@ frame-sound r codes enable s h = says-sound (acceptedFrame r codes enable .relay
           age = age-le (ageFound r enable) (found-le (r .«device_on») (bitOf enable 6) (r .age) (was .age));
           slot = slot-le (r .slot);
           channel = λ c l. rw (frame-channel r codes enable c l)
-              (channel-sound (levelsOf (r .settings) c) (r .slot) (counted r enable) (enabledIn enable c) (getD codes c 0) (channelAt r c)
+              (channel-sound (levelsOf (r .settings .levels) c) (r .slot) (counted r enable) (enabledIn enable c) (getD codes c 0) (channelAt r c)
               (codes-below codes h c l) (was .channel c l));
         }
 

@@ -74,17 +74,17 @@ byRestraint w = table 101 (λ r. unrestrainedBy r w)
 
 -- whether each channel's over run, or loss run, is met by the window
 abbrev oversMet : Settings → List ℤ → List Bool
-oversMet s w = table 6 (λ c. over (levelsOf s c) .meets w)
+oversMet s w = table 6 (λ c. over .meets (levelsOf (s .levels) c) w)
 
 abbrev lossesMet : Settings → List ℤ → List Bool
-lossesMet s w = table 6 (λ c. loss (levelsOf s c) .meets w)
+lossesMet s w = table 6 (λ c. loss .meets (levelsOf (s .levels) c) w)
 
 -- ---- a frame on a relay that is handed in
 
 -- equal drop levels for voltages and for currents, unequal pickups and restraints
 abbrev levels : ℕ → ℕ → List ℕ → List ℕ → Settings
 levels voltageDrop drop pickup restraint =
-    record { drop = replicate 3 voltageDrop ++ replicate 3 drop; pickup = pickup; restraint = restraint }
+    record { levels = record { drop = replicate 3 voltageDrop ++ replicate 3 drop; pickup = pickup; restraint = restraint } }
 
 abbrev three : ℕ → ℕ → ℕ → List ℕ
 three a b c = a ∷ b ∷ c ∷ []
@@ -190,7 +190,7 @@ lessWaiting = waiting less (pos 0)
 
 -- all six channels with m1 = 100 and m2 = 37, restraint 37 on each current; a drop level of 100 is not met, one of 101 is
 abbrev droppingLevels : Settings
-droppingLevels = record { drop = 100 ∷ 101 ∷ 100 ∷ 101 ∷ 100 ∷ 101 ∷ []; pickup = replicate 3 100; restraint = replicate 3 37 }
+droppingLevels = record { levels = record { drop = 100 ∷ 101 ∷ 100 ∷ 101 ∷ 100 ∷ 101 ∷ []; pickup = replicate 3 100; restraint = replicate 3 37 } }
 
 abbrev dropping : Relay
 dropping =
@@ -261,10 +261,10 @@ notMade refusal = record { relay = allZero; refusal = refusal }
 
 -- a level out of range in each place, beside a restraint of 101 in each place
 abbrev badDrop : ℕ → ℕ → ℕ → FreshAnswer
-badDrop level c k = freshOf (record { drop = set (replicate 6 1) c level; pickup = replicate 3 1; restraint = set (replicate 3 0) k 101 })
+badDrop level c k = freshOf (record { levels = record { drop = set (replicate 6 1) c level; pickup = replicate 3 1; restraint = set (replicate 3 0) k 101 } })
 
 abbrev badPickup : ℕ → ℕ → ℕ → FreshAnswer
-badPickup level j k = freshOf (record { drop = replicate 6 1; pickup = set (replicate 3 1) j level; restraint = set (replicate 3 0) k 101 })
+badPickup level j k = freshOf (record { levels = record { drop = replicate 6 1; pickup = set (replicate 3 1) j level; restraint = set (replicate 3 0) k 101 } })
 
 -- ---- a list of frames from a fresh relay
 
@@ -324,7 +324,7 @@ pub record RestraintCalls : Type 0 where
   pub each-less : byRestraint less ≡ true ∷ replicate 37 false ++ replicate 63 true
   pub each-pure : byRestraint pure ≡ replicate 101 true
   -- each r read as it is, in its place; a voltage has none
-  pub each-level : table 101 (λ r. table 6 (λ c. levelsOf (withRestraint (three r 7 (100 - r))) c .restraint))
+  pub each-level : table 101 (λ r. table 6 (λ c. levelsOf (withRestraint (three r 7 (100 - r)) .levels) c .restraint))
       ≡ table 101 (λ r. 0 ∷ 0 ∷ 0 ∷ r ∷ 7 ∷ (100 - r) ∷ [])
   -- each current by its own r, whatever the pickup that is met; a voltage never; the loss run knows no restraint
   pub own-restraint : (oversMet (levels 101 101 (three 100 1 100) (three 36 37 38)) even ≡ replicate 5 false ++ (true ∷ []))

@@ -71,13 +71,13 @@ byMask r = table 256 (λ mask. resetOf r mask .refusal)
 -- ---- one level apart from the others, in each place: what making a relay answers, and what the two calls on a relay that has it answer
 
 abbrev dropped : ℕ → ℕ → Settings
-dropped level c = record { drop = set (replicate 6 819) c level; pickup = replicate 3 3413; restraint = replicate 3 0 }
+dropped level c = record { levels = record { drop = set (replicate 6 819) c level; pickup = replicate 3 3413; restraint = replicate 3 0 } }
 
 abbrev picked : ℕ → ℕ → Settings
-picked level k = record { drop = replicate 6 819; pickup = set (replicate 3 3413) k level; restraint = replicate 3 0 }
+picked level k = record { levels = record { drop = replicate 6 819; pickup = set (replicate 3 3413) k level; restraint = replicate 3 0 } }
 
 abbrev restrained : ℕ → ℕ → Settings
-restrained r k = record { drop = replicate 6 819; pickup = replicate 3 3413; restraint = set (replicate 3 0) k r }
+restrained r k = record { levels = record { drop = replicate 6 819; pickup = replicate 3 3413; restraint = set (replicate 3 0) k r } }
 
 abbrev withLevel : Settings → List ℕ
 withLevel s = freshOf s .refusal ∷ under s

@@ -1,5 +1,5 @@
--- One channel: what a frame and a reset make of it (document 01, "Frames, runs, latches, resets").
--- Rests on the two kinds of run and on a window's samples.
+-- One channel: what a frame and a reset make of it (document 01, "Frames, runs, latches, resets"), and what new levels
+-- do (document 02, Paper 6). Rests on the two kinds of run and on a window's samples.
 use Prim.Native.Nat.{ℕ, suc, min}
 use mathlib.Core.Bool.{Bool, false, _&&_, _||_, cond}
 use mathlib.Core.List.{List, []}
@@ -47,8 +47,9 @@ abbrev pub runAfter : Bool → Bool → ℕ → ℕ → ℕ
 runAfter counted met len run = cond counted (cond met (min len (suc run)) 0) run
 
 -- it is met where the channel is enabled and the window meets the level
-unfoldable pub nextRun : Kind → Bool → Bool → List ℤ → ℕ → ℕ
-nextRun kind counted enabled window run = runAfter counted (enabled && kind .meets window) (kind .len) run
+unfoldable pub nextRun : Kind → ChannelLevels → Bool → Bool → List ℤ → ℕ → ℕ
+nextRun kind levels counted enabled window run =
+    runAfter counted (enabled && kind .meets levels window) (kind .len) run
 
 -- a latch after step 4, in every accepted frame: a run at its length turns it on
 abbrev pub nextLatch : Kind → ℕ → Bool → Bool
@@ -57,14 +58,14 @@ nextLatch kind run latch = latch || eqb run (kind .len)
 -- a channel with the window that step 1 leaves, and what steps 2 to 4 make of the rest
 abbrev pub channelWith : ChannelLevels → Bool → Bool → List ℤ → Channel → Channel
 channelWith levels counted enabled window ch =
-    let lossRun : ℕ = nextRun (loss levels) counted enabled window (ch .«loss_run») in
-    let overRun : ℕ = nextRun (over levels) counted enabled window (ch .«over_run») in
+    let lossRun : ℕ = nextRun loss levels counted enabled window (ch .«loss_run») in
+    let overRun : ℕ = nextRun over levels counted enabled window (ch .«over_run») in
     record {
       samples = window;
       «loss_run» = lossRun;
       «over_run» = overRun;
-      «loss_latch» = nextLatch (loss levels) lossRun (ch .«loss_latch»);
-      «over_latch» = nextLatch (over levels) overRun (ch .«over_latch»);
+      «loss_latch» = nextLatch loss lossRun (ch .«loss_latch»);
+      «over_latch» = nextLatch over overRun (ch .«over_latch»);
     }
 
 -- steps 1 to 4 of a frame, for one channel
@@ -74,3 +75,20 @@ channelAfter levels slot counted enabled code ch = channelWith levels counted en
 -- the channel has a latch on
 abbrev pub latchOn : Channel → Bool
 latchOn ch = ch .«loss_latch» || ch .«over_latch»
+
+-- ---- new levels (Paper 6)
+
+-- "A run carries over where its own level is equal; otherwise it becomes 0.", each run on its own
+abbrev pub carriedRun : Kind → ChannelLevels → ChannelLevels → ℕ → ℕ
+carriedRun kind old new run = cond (kind .same old new) run 0
+
+-- "Windows .. latches .. carry over."
+abbrev pub carriedOver : ChannelLevels → ChannelLevels → Channel → Channel
+carriedOver old new ch =
+    record {
+      samples = ch .samples;
+      «loss_run» = carriedRun loss old new (ch .«loss_run»);
+      «over_run» = carriedRun over old new (ch .«over_run»);
+      «loss_latch» = ch .«loss_latch»;
+      «over_latch» = ch .«over_latch»;
+    }

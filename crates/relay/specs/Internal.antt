@@ -11,13 +11,14 @@ use Rattle.phasor.specs.Lanes.{channelWindow}
 use Rattle.phasor.specs.Window.{windowSound}
 use Rattle.phasor.specs.declared.Window.{Window}
 use Rattle.relay.specs.declared.Channel.{Channel}
+use Rattle.relay.specs.declared.Levels.{Levels}
 use Rattle.relay.specs.declared.Settings.{Settings}
 use Rattle.relay.specs.declared.ChannelsAndOutput.{ChannelsAndOutput}
 use Rattle.frames.specs.Bits.{bitsBelow, enabledIn}
 use Rattle.relay.specs.Channel.{noChannel, windowAfter, channelWith, latchOn}
 use Rattle.relay.specs.Settings.{isCurrent, levelsOf, unrestrainedBy, settingsSound, lossFrames, settled}
 use Rattle.relay.specs.Sound.{overSound}
-use Rattle.relay.specs.Relay.{windowIn, inputChecks, resetChannel, maskChecks}
+use Rattle.relay.specs.Relay.{windowIn, inputChecks, resetChannel, maskChecks, levelChecks, changedChannel}
 
 -- ---- refusals
 
@@ -26,6 +27,9 @@ frameRefusalBy sound codes enable = firstFault ((sound orElse unsoundRelay) ∷ 
 
 unfoldable pub resetRefusalBy : Bool → ℕ → ℕ
 resetRefusalBy sound mask = firstFault ((sound orElse unsoundRelay) ∷ maskChecks mask)
+
+unfoldable pub changeRefusalBy : Bool → Levels → ℕ
+changeRefusalBy sound new = firstFault ((sound orElse unsoundRelay) ∷ levelChecks new)
 
 -- ---- six channels
 
@@ -42,7 +46,8 @@ windowsOf slot codes channels = table 6 (storedAt slot codes channels)
 -- channel c after steps 1 to 4, its bit of the output, and all of both, from the windows that step 1 leaves
 unfoldable pub channelIn : Settings → Bool → ℕ → List Window → List Channel → ℕ → Channel
 channelIn settings counted enable windows channels c =
-    channelWith (levelsOf settings c) counted (enabledIn enable c) (channelWindow windows c) (getD channels c noChannel)
+    channelWith (levelsOf (settings .levels) c) counted (enabledIn enable c) (channelWindow windows c)
+    (getD channels c noChannel)
 
 unfoldable pub onIn : Settings → Bool → ℕ → List Window → List Channel → ℕ → Bool
 onIn settings counted enable windows channels c =
@@ -57,7 +62,7 @@ channelsAndOutput settings counted enable windows channels =
 
 -- which channels are unrestrained; a voltage has no restraint
 unfoldable pub unrestrainedAt : Settings → List Window → ℕ → Bool
-unrestrainedAt settings windows c = unrestrainedBy (levelsOf settings c .restraint) (channelWindow windows c)
+unrestrainedAt settings windows c = unrestrainedBy (levelsOf (settings .levels) c .restraint) (channelWindow windows c)
 
 unfoldable pub unrestrainedIn : Settings → List Window → List Bool
 unrestrainedIn settings windows = table 6 (unrestrainedAt settings windows)
@@ -66,9 +71,12 @@ unrestrainedIn settings windows = table 6 (unrestrainedAt settings windows)
 abbrev pub allZero : ℕ → List ℕ → Bool
 allZero n xs = every n (λ k. eqb (getD xs k 0) 0)
 
--- the six channels after a reset
+-- the six channels after a reset, and under new levels
 unfoldable pub resetsOf : ℕ → List Channel → List Channel
 resetsOf mask channels = table 6 (resetChannel mask channels)
+
+unfoldable pub changesOf : Levels → Levels → List Channel → List Channel
+changesOf old new channels = table 6 (changedChannel old new channels)
 
 -- ---- soundness by its parts
 

@@ -1,6 +1,6 @@
--- The relay's three calls, refusals included (document 01, "Frames, runs, latches, resets", rows 1 to 5 of "Refusals",
--- and 20 of document 02), with the settling of document 02, Paper 5. Rests on one channel's rules and on what a sound
--- relay is.
+-- The relay's four calls, refusals included (document 01, "Frames, runs, latches, resets", rows 1 to 5 of "Refusals",
+-- and 20 of document 02), with the settling of document 02, Paper 5, and the new levels of Paper 6. Rests on one
+-- channel's rules and on what a sound relay is.
 use Prim.Native.Nat.{ℕ, _+_}
 use mathlib.Core.Bool.{Bool, true, false, _&&_, _||_, not, cond}
 use mathlib.Core.List.{List, [], _∷_}
@@ -14,13 +14,16 @@ use Rattle.frames.specs.Codes.{codesInRange}
 use Rattle.frames.specs.Bits.{bitOf, bitsBelow, enabledIn}
 use Rattle.phasor.specs.Cordic.{amplitudeOf}
 use Rattle.relay.specs.declared.Channel.{Channel}
+use Rattle.relay.specs.declared.Levels.{Levels}
 use Rattle.relay.specs.declared.Settings.{Settings}
 use Rattle.relay.specs.declared.Relay.{Relay}
 use Rattle.relay.specs.declared.FreshAnswer.{FreshAnswer}
 use Rattle.relay.specs.declared.FrameAnswer.{FrameAnswer}
 use Rattle.relay.specs.declared.ResetAnswer.{ResetAnswer}
-use Rattle.relay.specs.Settings.{levelsSound, restraintsSound, zeroSettings, levelsOf, settled}
+use Rattle.relay.specs.declared.ChangeAnswer.{ChangeAnswer}
+use Rattle.relay.specs.Settings.{nineSound, restraintsSound, zeroSettings, levelsOf, settled}
 use Rattle.relay.specs.Channel.{noChannel, freshChannel, clearedOf, windowAfter, channelAfter, latchOn}
+use Rattle.relay.specs.Channel.{carriedOver}
 use Rattle.relay.specs.Sound.{soundOf}
 
 abbrev pub channelAt : Relay → ℕ → Channel
@@ -36,16 +39,19 @@ unusedRelay on s = record { channels = replicate 6 freshChannel; age = 0; slot =
 abbrev pub freshRelay : Settings → Relay
 freshRelay s = unusedRelay true s
 
--- what refusals 1 and 20 return: "all-zero", so that it remembers off
+-- what a fresh relay that is refused by 1 or 20 returns: "all-zero", so that it remembers off
 abbrev pub zeroRelay : Relay
 zeroRelay = unusedRelay false zeroSettings
 
--- "20 for r above 100, after 1"
-abbrev pub freshChecks : Settings → List Check
-freshChecks s = (levelsSound s orElse badSetting) ∷ (restraintsSound (s .restraint) orElse badRestraint) ∷ []
+-- "20 for r above 100, after 1": of levels that are handed in, here and to `change`
+abbrev pub levelChecks : Levels → List Check
+levelChecks l = (nineSound l orElse badSetting) ∷ (restraintsSound (l .restraint) orElse badRestraint) ∷ []
 
-unfoldable pub freshRefusal : Settings → ℕ
-freshRefusal s = firstFault (freshChecks s)
+unfoldable pub levelRefusal : Levels → ℕ
+levelRefusal l = firstFault (levelChecks l)
+
+abbrev pub freshRefusal : Settings → ℕ
+freshRefusal s = levelRefusal (s .levels)
 
 unfoldable pub freshOf : Settings → FreshAnswer
 freshOf s =
@@ -88,7 +94,8 @@ amplitudeIn slot codes channels c = amplitudeOf 1 (windowIn slot codes channels 
 -- channel c after steps 1 to 4
 unfoldable pub nextChannel : Settings → ℕ → Bool → List ℕ → ℕ → List Channel → ℕ → Channel
 nextChannel settings slot isCounted codes enable channels c =
-    channelAfter (levelsOf settings c) slot isCounted (enabledIn enable c) (getD codes c 0) (getD channels c noChannel)
+    channelAfter (levelsOf (settings .levels) c) slot isCounted (enabledIn enable c) (getD codes c 0)
+    (getD channels c noChannel)
 
 -- step 5: "bit c is 1 if channel c has a latch on and is enabled in this frame"
 unfoldable pub outputIn : Settings → ℕ → Bool → List ℕ → ℕ → List Channel → ℕ → Bool
@@ -179,3 +186,40 @@ resetOf r mask =
     cond (eqb (resetRefusal r mask) accepted)
     (acceptedReset r mask)
     (refusedReset r (resetRefusal r mask))
+
+-- ---- new levels: document 02, Paper 6, "Add a call that takes all nine new levels", and r with them (Paper 8)
+
+-- channel c under its old levels, then its new ones
+unfoldable pub changedChannel : Levels → Levels → List Channel → ℕ → Channel
+changedChannel old new channels c = carriedOver (levelsOf old c) (levelsOf new c) (getD channels c noChannel)
+
+-- "Windows, slot, age, latches and the remembered bit 6 carry over."
+unfoldable pub acceptedChange : Relay → Levels → ChangeAnswer
+acceptedChange r new =
+    record {
+      relay = record {
+        channels = table 6 (changedChannel (r .settings .levels) new (r .channels));
+        age = r .age;
+        slot = r .slot;
+        «device_on» = r .«device_on»;
+        settings = record { levels = new };
+      };
+      refusal = accepted;
+    }
+
+-- what refusals 2, 1 and 20 return: "relay as given"
+unfoldable pub refusedChange : Relay → ℕ → ChangeAnswer
+refusedChange r refusal = record { relay = r; refusal = refusal }
+
+-- "Refused: 2 and then 1", then 20: on a sound relay the levels alone decide
+abbrev pub changeChecks : Relay → Levels → List Check
+changeChecks r new = (soundOf r orElse unsoundRelay) ∷ levelChecks new
+
+unfoldable pub changeRefusal : Relay → Levels → ℕ
+changeRefusal r new = firstFault (changeChecks r new)
+
+unfoldable pub changeOf : Relay → Levels → ChangeAnswer
+changeOf r new =
+    cond (eqb (changeRefusal r new) accepted)
+    (acceptedChange r new)
+    (refusedChange r (changeRefusal r new))

@@ -1,5 +1,6 @@
--- Settings, levels, the two kinds of run and their lengths (document 01, "Frames, runs, latches, resets"), and harmonic
--- restraint (document 02, Paper 8): all that a level or a length is stands here. Rests on the amplitude of a window.
+-- Settings, levels, the two kinds of run and their lengths (document 01, "Frames, runs, latches, resets"), harmonic
+-- restraint (document 02, Paper 8), and what a run's own level is (Paper 6): all that a level or a length is stands
+-- here. Rests on the amplitude of a window.
 use Prim.Native.Nat.{ℕ, _-_, _*_}
 use mathlib.Core.Bool.{Bool, _&&_, _||_, cond}
 use mathlib.Core.List.{List}
@@ -9,6 +10,7 @@ use lib.ListN.{getD, replicate}
 use Rattle.lists.specs.Each.{every}
 use Rattle.phasor.specs.Cordic.{amplitudeOf}
 use Rattle.relay.specs.declared.ChannelLevels.{ChannelLevels}
+use Rattle.relay.specs.declared.Levels.{Levels}
 use Rattle.relay.specs.declared.Settings.{Settings}
 
 -- "Channels 0, 1, 2 are voltages; 3, 4, 5 are currents."
@@ -35,8 +37,8 @@ dropsSound drop = levelsInRange 6 drop
 unfoldable pub pickupsSound : List ℕ → Bool
 pickupsSound pickup = levelsInRange 3 pickup
 
-abbrev pub levelsSound : Settings → Bool
-levelsSound s = dropsSound (s .drop) && pickupsSound (s .pickup)
+abbrev pub nineSound : Levels → Bool
+nineSound l = dropsSound (l .drop) && pickupsSound (l .pickup)
 
 -- Paper 8: "Each current gets a restraint level r, 1 to 100 or 0 for off."
 abbrev pub mostRestraint : ℕ
@@ -49,19 +51,19 @@ unfoldable pub restraintsSound : List ℕ → Bool
 restraintsSound restraint = every 3 (restraintInRange restraint)
 
 abbrev pub settingsSound : Settings → Bool
-settingsSound s = levelsSound s && restraintsSound (s .restraint)
+settingsSound s = nineSound (s .levels) && restraintsSound (s .levels .restraint)
 
--- the settings of the relay that refusals 1 and 20 return
+-- the settings of the relay that making a fresh one returns where it is refused
 abbrev pub zeroSettings : Settings
-zeroSettings = record { drop = replicate 6 0; pickup = replicate 3 0; restraint = replicate 3 0 }
+zeroSettings = record { levels = record { drop = replicate 6 0; pickup = replicate 3 0; restraint = replicate 3 0 } }
 
 -- channel c's own levels; a voltage has no pickup and no restraint, and their places hold 0
-unfoldable pub levelsOf : Settings → ℕ → ChannelLevels
-levelsOf s c =
+unfoldable pub levelsOf : Levels → ℕ → ChannelLevels
+levelsOf l c =
     record {
-      drop = getD (s .drop) c 0;
-      pickup = cond (isCurrent c) (getD (s .pickup) (c - 3) 0) 0;
-      restraint = cond (isCurrent c) (getD (s .restraint) (c - 3) 0) 0;
+      drop = getD (l .drop) c 0;
+      pickup = cond (isCurrent c) (getD (l .pickup) (c - 3) 0) 0;
+      restraint = cond (isCurrent c) (getD (l .restraint) (c - 3) 0) 0;
       current = isCurrent c;
     }
 
@@ -78,15 +80,21 @@ overFrames = 4
 abbrev pub settled : ℕ
 settled = 72
 
--- Kind (our word): loss or over; how many frames make a full run (document 01's term), and whether a window meets the
--- level
+-- Kind (our word): loss or over; how many frames make a full run (document 01's term), whether a window meets the
+-- level, and whether two levels of a channel are equal in what is the run's "own level" (Paper 6's term)
 pub record Kind : Type 0 where
   pub len : ℕ
-  pub meets : List ℤ → Bool
+  pub meets : ChannelLevels → List ℤ → Bool
+  pub same : ChannelLevels → ChannelLevels → Bool
 
--- the loss run: frames with m < drop
-abbrev pub loss : ChannelLevels → Kind
-loss levels = record { len = lossFrames; meets = λ w. ltb (amplitudeOf 1 w) (levels .drop) }
+-- the loss run: frames with m < drop; its own level is the drop
+abbrev pub loss : Kind
+loss =
+    record {
+      len = lossFrames;
+      meets = λ levels w. ltb (amplitudeOf 1 w) (levels .drop);
+      same = λ old new. eqb (old .drop) (new .drop);
+    }
 
 -- Paper 8: "only if r is 0 or 100 times the second-harmonic amplitude is less than r times the fundamental".
 -- Unrestrained (our word): this test of r and of the two amplitudes of one window.
@@ -96,10 +104,13 @@ unrestrained r fundamental second = eqb r 0 || ltb (100 * second) (r * fundament
 abbrev pub unrestrainedBy : ℕ → List ℤ → Bool
 unrestrainedBy r w = unrestrained r (amplitudeOf 1 w) (amplitudeOf 2 w)
 
--- the over run: frames with m ≥ pickup that are unrestrained; a voltage has none
-abbrev pub over : ChannelLevels → Kind
-over levels =
+-- the over run: frames with m ≥ pickup that are unrestrained; a voltage has none. Its own level is the pickup, and
+-- "Changed levels carry r too, as part of the over run's own level" (Paper 8).
+abbrev pub over : Kind
+over =
     record {
       len = overFrames;
-      meets = λ w. levels .current && (leb (levels .pickup) (amplitudeOf 1 w) && unrestrainedBy (levels .restraint) w);
+      meets = λ levels w.
+          levels .current && (leb (levels .pickup) (amplitudeOf 1 w) && unrestrainedBy (levels .restraint) w);
+      same = λ old new. eqb (old .pickup) (new .pickup) && eqb (old .restraint) (new .restraint);
     }

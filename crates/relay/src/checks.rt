@@ -5,9 +5,9 @@ ghost use Rattle.relay.specs.Internal.{stateSound, windowsSound, statesS
 use crate::Channel;
 use crate::Relay;
 use crate::Settings;
-use crate::levels::LOSS_FRAMES;
-use crate::levels::OVER_FRAMES;
-use crate::levels::SETTLED;
+use crate::limits::LOSS_FRAMES;
+use crate::limits::OVER_FRAMES;
+use crate::limits::SETTLED;
 
 // A current's over run is 0 to 4; a voltage has none, and no over latch.
 fn over_sound(current: bool, ch: Channel) -> bool
@@ -85,8 +85,9 @@ fn rest_sound(settings: Settings, age: u8, slot: u8) -> bool
     settings.sound() & (age <= SETTLED) & (slot <= 7)
 }
 
-// Two functions for one predicate. Each has one caller, and so is compiled into it: a relay that goes by value to a
-// function with two callers is copied for each call. A frame's is the quicker one, a reset's the shorter.
+// Two functions for one predicate. A frame's is the quicker one. It has one caller, and so is compiled into it: a relay
+// that goes by value to a function with two callers is copied for each call. The other, of resets and changes, is the
+// shorter.
 impl Relay {
     // Whether a relay handed to `frame` is sound: all samples first, then all runs and latches.
     pub(crate) fn sound_for_frame(self) -> bool
@@ -98,8 +99,8 @@ impl Relay {
             & (windows_sound(channels) & states_sound(channels))
     }
 
-    // Whether a relay handed to `reset` is sound: channel after channel.
-    pub(crate) fn sound_for_reset(self) -> bool
+    // Whether a relay handed to `reset` or `change` is sound: channel after channel.
+    pub(crate) fn sound(self) -> bool
         ensures { λ r. ⌜ r ≡ soundOf self ⌝ }
     {
         let channels = self.channels;

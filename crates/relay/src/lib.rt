@@ -1,14 +1,14 @@
 // The relay of document 01: six channels, each with its window, runs and latches, under nine levels, and a restraint
 // level for each current (document 02, Paper 8); it settles at the start and when the device is enabled again (Paper
-// 5). Its entry points are `Relay::fresh`, `Relay::frame` and `Relay::reset`: each takes any arguments, a relay that
-// is not sound too, and promises its whole answer.
+// 5), and takes new levels while it runs (Paper 6). Its entry points are `Relay::fresh`, `Relay::frame`, `Relay::reset`
+// and `Relay::change`: each takes any arguments, a relay that is not sound too, and promises its whole answer.
 ghost use mathlib.Core.Path.{_≡_};
 ghost use Rattle.relay.specs.Relay.{unusedRelay, freshOf, frameRefusal, acceptedFrame, refusedFrame, frameOf};
-ghost use Rattle.relay.specs.Relay.{acceptedReset, resetOf};
-ghost use Rattle.relay.specs.Internal.{frameRefusalBy, resetRefusalBy};
+ghost use Rattle.relay.specs.Relay.{acceptedReset, resetOf, acceptedChange, changeOf};
+ghost use Rattle.relay.specs.Internal.{frameRefusalBy, resetRefusalBy, changeRefusalBy};
 
 mod checks; // checks.rt: whether a relay is sound
-mod levels; // levels.rt: levels, kinds of run and their lengths
+mod limits; // limits.rt: levels, restraint, kinds of run and their lengths
 mod steps; // steps.rt: what an accepted call makes of a channel
 
 // One channel: its last eight samples beside its two runs and its two latches.
@@ -30,12 +30,18 @@ pub struct ChannelLevels {
     pub current: bool,
 }
 
-// A drop level for each channel, a pickup level and a restraint level for each current.
+// What a dispatcher can change: a drop level for each channel, a pickup level and a restraint level for each current.
 #[repr(C)]
-pub struct Settings {
+pub struct Levels {
     pub drop: [u16; 6],
     pub pickup: [u16; 3],
     pub restraint: [u8; 3],
+}
+
+// All that a relay is made with.
+#[repr(C)]
+pub struct Settings {
+    pub levels: Levels,
 }
 
 // `device_on` is bit 6 of the latest accepted frame; a fresh relay has it on.
@@ -65,6 +71,12 @@ pub struct FrameAnswer {
 
 #[repr(C)]
 pub struct ResetAnswer {
+    pub relay: Relay,
+    pub refusal: u8,
+}
+
+#[repr(C)]
+pub struct ChangeAnswer {
     pub relay: Relay,
     pub refusal: u8,
 }
@@ -105,15 +117,16 @@ impl Relay {
     pub fn fresh(settings: Settings) -> FreshAnswer
         ensures { λ r. ⌜ r ≡ freshOf settings ⌝ }
     {
-        let refusal = settings.refusal();
+        let levels = settings.levels;
+        let refusal = levels.refusal();
         if refusal != refusals::ACCEPTED {
-            let zeros = Settings {
+            let zeros = Levels {
                 drop: [0; 6],
                 pickup: [0; 3],
                 restraint: [0; 3],
             };
             return FreshAnswer {
-                relay: Relay::unused(false, zeros),
+                relay: Relay::unused(false, Settings { levels: zeros }),
                 refusal: refusal,
             };
         }
@@ -133,7 +146,7 @@ impl Relay {
         let slot = self.slot as usize;
         let device_on = frames::bits::bit(enable, 6);
         let age = steps::age_found(self.device_on, device_on, self.age);
-        let counted = levels::SETTLED <= age;
+        let counted = limits::SETTLED <= age;
         let windows = steps::windows_after(old, slot, codes);
         let amplitudes = phasor::amplitudes(windows);
         let unrestrained = steps::unrestrained_channels(settings, windows, amplitudes);
@@ -219,11 +232,54 @@ impl Relay {
     pub fn reset(self, mask: u8) -> ResetAnswer
         ensures { λ r. ⌜ r ≡ resetOf self mask ⌝ }
     {
-        let refusal = Relay::reset_refusal(self.sound_for_reset(), mask);
+        let refusal = Relay::reset_refusal(self.sound(), mask);
         if refusal == refusals::ACCEPTED {
             self.accepted_reset(mask)
         } else {
             ResetAnswer {
+                relay: self,
+                refusal: refusal,
+            }
+        }
+    }
+
+    // New levels: each run is kept where its own level is equal; windows, slot, age, latches and memory stay.
+    fn accepted_change(self, levels: Levels) -> ChangeAnswer
+        ensures { λ r. ⌜ r ≡ acceptedChange self levels ⌝ }
+    {
+        let old = self.channels;
+        let mut settings = self.settings;
+        let channels = steps::channels_changed(old, settings.levels, levels);
+        settings.levels = levels;
+        let mut next = self;
+        next.channels = channels;
+        next.settings = settings;
+        ChangeAnswer {
+            relay: next,
+            refusal: refusals::ACCEPTED,
+        }
+    }
+
+    // The number of the refusal, first check first; 0 where the change is accepted.
+    fn change_refusal(sound: bool, levels: Levels) -> u8
+        ensures { λ r. ⌜ r ≡ changeRefusalBy sound levels ⌝ }
+    {
+        if !sound {
+            return refusals::UNSOUND_RELAY;
+        }
+        levels.refusal()
+    }
+
+    // New levels, all of them at once: the relay goes on under these. Refused are a relay that is not sound, a level
+    // outside 1 to 10,700 and a restraint above 100, in this order, with the relay as given.
+    pub fn change(self, levels: Levels) -> ChangeAnswer
+        ensures { λ r. ⌜ r ≡ changeOf self levels ⌝ }
+    {
+        let refusal = Relay::change_refusal(self.sound(), levels);
+        if refusal == refusals::ACCEPTED {
+            self.accepted_change(levels)
+        } else {
+            ChangeAnswer {
                 relay: self,
                 refusal: refusal,
             }

@@ -1,5 +1,5 @@
 // What an accepted frame and an accepted reset make of one channel, of the six windows, of the age and of the slot
-// (document 01, "Frames, runs, latches, resets").
+// (document 01, "Frames, runs, latches, resets"), and what new levels make of a channel (document 02, Paper 6).
 ghost use mathlib.Core.Path.{_≡_};
 ghost use mathlib.Core.Bool.{true, cond};
 ghost use Prim.Native.Nat.{_<_};
@@ -7,17 +7,19 @@ ghost use Rattle.phasor.specs.Cordic.{amplitudeOf};
 ghost use Rattle.frames.specs.Codes.{codeLimit, codesInRange};
 ghost use Rattle.phasor.specs.Lanes.{WindowsSound, amplitudesOf};
 ghost use Rattle.relay.specs.Settings.{unrestrainedBy};
-ghost use Rattle.relay.specs.Channel.{freshChannel, clearedOf, runAfter, channelWith};
+ghost use Rattle.relay.specs.Channel.{freshChannel, clearedOf, runAfter, channelWith, carriedOver};
 ghost use Rattle.relay.specs.Relay.{foundBy, ageAfter, slotAfter};
-ghost use Rattle.relay.specs.Internal.{storedWindow, windowsOf, channelsAndOutput, resetsOf, unrestrainedIn};
+ghost use Rattle.relay.specs.Internal.{storedWindow, windowsOf, channelsAndOutput, resetsOf, changesOf};
+ghost use Rattle.relay.specs.Internal.{unrestrainedIn};
 use crate::Channel;
 use crate::ChannelLevels;
 use crate::ChannelsAndOutput;
+use crate::Levels;
 use crate::Settings;
-use crate::levels::LOSS_FRAMES;
-use crate::levels::OVER_FRAMES;
-use crate::levels::SETTLED;
-use crate::levels::unrestrained;
+use crate::limits::LOSS_FRAMES;
+use crate::limits::OVER_FRAMES;
+use crate::limits::SETTLED;
+use crate::limits::unrestrained;
 use frames::bits::bit;
 use frames::bits::enabled_in;
 use frames::bits::with_bit;
@@ -113,6 +115,32 @@ impl Channel {
     }
 }
 
+// A run under new levels: as it was where its own level is equal, else 0.
+fn carried_run(same: bool, run: u8) -> u8
+    ensures { λ r. ⌜ r ≡ cond same run 0 ⌝ }
+{
+    if same { run } else { 0 }
+}
+
+impl Channel {
+    // A channel under its old levels, then its new ones.
+    pub(crate) fn after_change(self, old: ChannelLevels, new: ChannelLevels) -> Channel
+        ensures { λ r. ⌜ r ≡ carriedOver old new self ⌝ }
+    {
+        let samples = self.samples;
+        let over_same = (old.pickup == new.pickup) & (old.restraint == new.restraint);
+        let loss = carried_run(old.drop == new.drop, self.loss_run);
+        let over = carried_run(over_same, self.over_run);
+        Channel {
+            samples: samples,
+            loss_run: loss,
+            over_run: over,
+            loss_latch: self.loss_latch,
+            over_latch: self.over_latch,
+        }
+    }
+}
+
 // The six windows with the frame's samples in their slot.
 pub(crate) fn windows_after(
     channels: [Channel; 6],
@@ -143,7 +171,8 @@ pub(crate) fn unrestrained_channels(
     requires { ⌜ amplitudes ≡ amplitudesOf windows ⌝ }
     ensures { λ r. ⌜ r ≡ unrestrainedIn settings windows ⌝ }
 {
-    let restraint = settings.restraint;
+    let levels = settings.levels;
+    let restraint = levels.restraint;
     if (restraint[0] == 0) & (restraint[1] == 0) & (restraint[2] == 0) {
         return [true; 6];
     }
@@ -176,7 +205,8 @@ pub(crate) fn channels_after(
     let mut c: usize = 0;
     while c < 6 {
         let enabled = enabled_in(enable, c);
-        let levels = settings.levels(c);
+        let all = settings.levels;
+        let levels = all.of_channel(c);
         let channel = old[c].after(
             levels,
             windows[c],
@@ -204,6 +234,20 @@ pub(crate) fn channels_reset(old: [Channel; 6], mask: u8) -> [Channel; 6]
     let mut c: usize = 0;
     while c < 6 {
         let channel = old[c].after_reset(bit(mask, c));
+        channels[c] = channel;
+        c += 1;
+    }
+    channels
+}
+
+// The six channels under new levels.
+pub(crate) fn channels_changed(old: [Channel; 6], was: Levels, new: Levels) -> [Channel; 6]
+    ensures { λ r. ⌜ r ≡ changesOf was new old ⌝ }
+{
+    let mut channels = old;
+    let mut c: usize = 0;
+    while c < 6 {
+        let channel = old[c].after_change(was.of_channel(c), new.of_channel(c));
         channels[c] = channel;
         c += 1;
     }

@@ -5,6 +5,7 @@
 ghost use Prim.Native.Nat.{_<_, _^_};
 use libc::STDIN_FILENO;
 use libc::STDOUT_FILENO;
+use relay::Levels;
 use relay::Relay;
 use relay::Settings;
 
@@ -59,16 +60,16 @@ fn total(amplitudes: [u16; 6], output: u8) -> u64 {
     sum
 }
 
-// The settings that the first byte asks for.
-fn settings_by(first: u8) -> Settings {
+// The levels that the first byte asks for.
+fn levels_by(first: u8) -> Levels {
     if first < 128 {
-        return Settings {
+        return Levels {
             drop: [819; 6],
             pickup: [3413; 3],
             restraint: [0; 3],
         };
     }
-    Settings {
+    Levels {
         drop: [819; 6],
         pickup: [1; 3],
         restraint: [first - 128; 3],
@@ -92,7 +93,9 @@ fn enable_at(n: u64, hold: u64) -> u8
 // One call of `frame`, so that it is compiled into the loop.
 fn run(frames: u64, first: u8) -> u64 {
     let hold = hold_by(first);
-    let made = Relay::fresh(settings_by(first));
+    let made = Relay::fresh(Settings {
+        levels: levels_by(first),
+    });
     let mut relay = made.relay;
     let mut state: u64 = 1;
     let mut sum: u64 = 0;

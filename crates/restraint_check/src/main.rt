@@ -3,6 +3,7 @@
 // report. The stored output was made by a second implementation.
 ghost use Prim.Native.Nat.{_<_, _≤_};
 use libc::STDOUT_FILENO;
+use relay::Levels;
 use relay::Relay;
 use relay::Settings;
 
@@ -36,11 +37,12 @@ fn show_frame(relay: Relay, cells: &[u16; CELLS], n: usize) -> Relay
 fn show_frames(cells: &[u16; CELLS], count: usize, restraint: u8)
     requires { ⌜ count ≤ 256 ⌝ }
 {
-    let made = Relay::fresh(Settings {
+    let levels = Levels {
         drop: [819; 6],
         pickup: [3413; 3],
         restraint: [restraint; 3],
-    });
+    };
+    let made = Relay::fresh(Settings { levels: levels });
     let mut relay = made.relay;
     let mut n: usize = 0;
     while n < count {

@@ -1,6 +1,7 @@
 // A story of two phases that trip, one of which is reset while the other stays tripped: a line for
 // each call. The stored output was made by a second implementation.
 use libc::STDOUT_FILENO;
+use relay::Levels;
 use relay::Relay;
 use relay::Settings;
 
@@ -65,11 +66,12 @@ fn reset_after(relay: Relay, n: u16) -> Relay {
 
 // Each frame, and the reset that follows it.
 fn main() {
-    let made = Relay::fresh(Settings {
+    let levels = Levels {
         drop: [1; 6],
         pickup: [1603; 3],
         restraint: [0; 3],
-    });
+    };
+    let made = Relay::fresh(Settings { levels: levels });
     let mut relay = made.relay;
     let mut n: u16 = 0;
     while n < FRAMES {

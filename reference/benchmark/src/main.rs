@@ -5,7 +5,7 @@
 
 use reference::bench::SETTINGS;
 use reference::capture::{CELLS, LONGEST, MOST_FRAMES};
-use reference::{bench_text, frame, fresh, read, write, Relay, Settings};
+use reference::{bench_text, frame, fresh, read, write, Levels, Relay, Settings};
 use std::io::{Read, Write};
 
 /// One frame; the sum keeps the work from being dropped and is the same in every language.
@@ -27,7 +27,7 @@ fn run_on(relay: &mut Relay, cells: &[u16]) -> u64 {
 
 /// Pickups 1, and one restraint level.
 fn restrained(level: u8) -> Settings {
-    Settings { pickup: [1; 3], restraint: [level; 3], ..SETTINGS }
+    Settings { levels: Levels { pickup: [1; 3], restraint: [level; 3], ..SETTINGS.levels } }
 }
 
 /// Each enable byte stands for 2 to the power of `hold` frames.

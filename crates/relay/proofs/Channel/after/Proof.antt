@@ -17,14 +17,14 @@ use Rattle.relay.proofs.Channel.after.Tie as tie
 made : (levels : ChannelLevels) (window : List ℤ) (counted enabled : Bool) (m : ℕ) (free : Bool) (lossRun overRun : ℕ) (ch : Channel)
     → m ≡ amplitudeOf 1 window
     → free ≡ unrestrainedBy (levels .restraint) window
-    → lossRun ≡ runAfter counted (enabled && ltb m (levels .drop)) (loss levels .len) (ch .«loss_run»)
-    → overRun ≡ runAfter counted (enabled && (levels .current && (leb (levels .pickup) m && free))) (over levels .len) (ch .«over_run»)
+    → lossRun ≡ runAfter counted (enabled && ltb m (levels .drop)) (loss .len) (ch .«loss_run»)
+    → overRun ≡ runAfter counted (enabled && (levels .current && (leb (levels .pickup) m && free))) (over .len) (ch .«over_run»)
     → _≡_ {A = Channel} (record {
       samples = window;
       «loss_run» = lossRun;
       «over_run» = overRun;
-      «loss_latch» = nextLatch (loss levels) lossRun (ch .«loss_latch»);
-      «over_latch» = nextLatch (over levels) overRun (ch .«over_latch»);
+      «loss_latch» = nextLatch loss lossRun (ch .«loss_latch»);
+      «over_latch» = nextLatch over overRun (ch .«over_latch»);
     }) (channelWith levels counted enabled window ch)
 unfolding nextRun
 made levels window counted enabled m free lossRun overRun ch q f l o = rw (l, o, q, f)

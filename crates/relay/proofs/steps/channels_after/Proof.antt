@@ -28,7 +28,7 @@ amplitude-is : (windows : List Window) (amplitudes : List ℕ) (c : ℕ) → amp
 amplitude-is windows amplitudes c e h = rw e (getD-table 6 (λ k. amplitudeOf 1 (channelWindow windows k)) 0 c h)
 
 free-is : (settings : Settings) (windows : List Window) (free : List Bool) (levels : ChannelLevels) (c : ℕ)
-    → free ≡ unrestrainedIn settings windows → levels ≡ levelsOf settings c → c < 6
+    → free ≡ unrestrainedIn settings windows → levels ≡ levelsOf (settings .levels) c → c < 6
     → getD free c false ≡ unrestrainedBy (levels .restraint) (channelWindow windows c)
 unfolding unrestrainedIn unrestrainedAt
 free-is settings windows free levels c e l h = rw (e, l) (getD-table 6 (unrestrainedAt settings windows) false c h)
@@ -49,7 +49,7 @@ module _
     -- one turn more, from what the callees answer
     again : (levels : ChannelLevels) (enabled : Bool) (ch : Channel) (out : ℕ) → c < 6
         → enabled ≡ enabledIn enable c
-        → levels ≡ levelsOf settings c
+        → levels ≡ levelsOf (settings .levels) c
         → ch ≡ channelWith levels counted enabled (channelWindow windows c) (getD old c noChannel)
         → out ≡ output + cond ((ch .«loss_latch» || ch .«over_latch») && enabled) (2 ^ c) 0
         → Making settings counted enable windows old (set channels c ch) out (c + 1)

@@ -27,13 +27,13 @@ freeFrom restraint amplitudes seconds c =
 
 -- no restraint is on
 off : (settings : Settings) (windows : List Window)
-    → eqb (getD (settings .restraint) 0 0) 0 && eqb (getD (settings .restraint) 1 0) 0 && eqb (getD (settings .restraint) 2 0) 0 ≡ true
+    → (let r : List ℕ = settings .levels .restraint in eqb (getD r 0 0) 0 && eqb (getD r 1 0) 0 && eqb (getD r 2 0) 0 ≡ true)
     → _≡_ {A = List Bool} (true ∷ true ∷ true ∷ true ∷ true ∷ true ∷ []) (unrestrainedIn settings windows)
 unfolding unrestrainedIn unrestrainedAt levelsOf table
 off settings windows h = rw (and-left a b two, and-right a b two, and-right (a && b) (eqb (getD r 2 0) 0) h)
   where
     r : List ℕ
-    r = settings .restraint
+    r = settings .levels .restraint
 
     a : Bool
     a = eqb (getD r 0 0) 0
@@ -57,7 +57,7 @@ module _ (restraint amplitudes seconds : List ℕ) where
 -- the numbers are those of the windows
 module _ (settings : Settings) (windows : List Window) (amplitudes seconds : List ℕ) (e : amplitudes ≡ amplitudesOf windows)
     (f : seconds ≡ secondsOf windows) where
-  at : (c : ℕ) → c < 6 → freeFrom (settings .restraint) amplitudes seconds c ≡ unrestrainedAt settings windows c
+  at : (c : ℕ) → c < 6 → freeFrom (settings .levels .restraint) amplitudes seconds c ≡ unrestrainedAt settings windows c
   unfolding unrestrainedAt levelsOf
   at c h = by (leb 3 c) refl
     where
@@ -70,12 +70,12 @@ module _ (settings : Settings) (windows : List Window) (amplitudes seconds : Lis
           ∙ ap (λ (k : ℕ). amplitudeOf 2 (channelWindow windows k)) (let q : c - 3 + 3 ≡ c = omega arith in q)
 
       by : (b : Bool) → leb 3 c ≡ b
-          → cond b (unrestrained (getD (settings .restraint) (c - 3) 0) (getD amplitudes c 0) (getD seconds (c - 3) 0)) true
-          ≡ unrestrainedBy (cond b (getD (settings .restraint) (c - 3) 0) 0) (channelWindow windows c)
+          → cond b (unrestrained (getD (settings .levels .restraint) (c - 3) 0) (getD amplitudes c 0) (getD seconds (c - 3) 0)) true
+          ≡ unrestrainedBy (cond b (getD (settings .levels .restraint) (c - 3) 0) 0) (channelWindow windows c)
       by true q = rw (first, second (leb-true 3 c q))
       by false q = refl
 
-  done : (made : List Bool) (c : ℕ) → Filled 6 (freeFrom (settings .restraint) amplitudes seconds) made c → 6 ≤ c
+  done : (made : List Bool) (c : ℕ) → Filled 6 (freeFrom (settings .levels .restraint) amplitudes seconds) made c → 6 ≤ c
       → made ≡ unrestrainedIn settings windows
   unfolding unrestrainedIn
   done made c inv h = filled-all 6 _ made c inv h ∙ table-same 6 _ _ at

@@ -3,8 +3,8 @@ use Prim.Native.Nat.{ℕ, _*_, _≤_, _<_, _^_}
 use native.Mathlib.Nat.{mul-le-mul}
 use native.Mathlib.Omega.{arith}
 use borrow.Author.Needs.{needs}
-use Rattle.relay.proofs.levels.unrestrained.Statement.{statement}
-use Rattle.relay.proofs.levels.unrestrained.Tie as tie
+use Rattle.relay.proofs.limits.unrestrained.Statement.{statement}
+use Rattle.relay.proofs.limits.unrestrained.Tie as tie
 
 -- a byte times a number of 16 bits
 small : {r m : ℕ} → r < 2 ^ 8 → m < 2 ^ 16 → r * m < 2 ^ 32

@@ -3,10 +3,11 @@
 ghost use mathlib.Core.Path.{_≡_};
 ghost use Prim.Native.Nat.{_<_};
 ghost use lib.ListN.{length};
-ghost use Rattle.relay.specs.Settings.{levelsInRange, levelsSound, restraintsSound, settingsSound, levelsOf};
+ghost use Rattle.relay.specs.Settings.{levelsInRange, nineSound, restraintsSound, settingsSound, levelsOf};
 ghost use Rattle.relay.specs.Settings.{unrestrained};
-ghost use Rattle.relay.specs.Relay.{freshRefusal};
+ghost use Rattle.relay.specs.Relay.{levelRefusal};
 use crate::ChannelLevels;
+use crate::Levels;
 use crate::Settings;
 
 // A frame that finds this age is counted.
@@ -59,29 +60,32 @@ pub(crate) fn unrestrained(r: u8, fundamental: u16, second: u16) -> bool
 }
 
 impl Settings {
-    // Nine levels in range.
-    fn levels_sound(self) -> bool
-        ensures { λ r. ⌜ r ≡ levelsSound self ⌝ }
+    // All settings in range.
+    pub(crate) fn sound(self) -> bool
+        ensures { λ r. ⌜ r ≡ settingsSound self ⌝ }
+    {
+        let levels = self.levels;
+        let restraint = levels.restraint;
+        levels.nine_sound() & restraints_in_range(restraint)
+    }
+}
+
+impl Levels {
+    // Nine levels in range: the restraints are apart, for they have a refusal of their own.
+    fn nine_sound(self) -> bool
+        ensures { λ r. ⌜ r ≡ nineSound self ⌝ }
     {
         let drop = self.drop;
         let pickup = self.pickup;
         levels_in_range(&drop) & levels_in_range(&pickup)
     }
 
-    // All settings in range.
-    pub(crate) fn sound(self) -> bool
-        ensures { λ r. ⌜ r ≡ settingsSound self ⌝ }
-    {
-        let restraint = self.restraint;
-        self.levels_sound() & restraints_in_range(restraint)
-    }
-
-    // The number of the refusal of settings, first check first; 0 where they are accepted.
+    // The number of the refusal of levels that are handed in, first check first; 0 where they are accepted.
     pub(crate) fn refusal(self) -> u8
-        ensures { λ r. ⌜ r ≡ freshRefusal self ⌝ }
+        ensures { λ r. ⌜ r ≡ levelRefusal self ⌝ }
     {
         let restraint = self.restraint;
-        if !self.levels_sound() {
+        if !self.nine_sound() {
             return refusals::BAD_SETTING;
         }
         if !restraints_in_range(restraint) {
@@ -91,7 +95,7 @@ impl Settings {
     }
 
     // The levels of one channel.
-    pub(crate) fn levels(self, c: usize) -> ChannelLevels
+    pub(crate) fn of_channel(self, c: usize) -> ChannelLevels
         requires { ⌜ c < 6 ⌝ }
         ensures { λ r. ⌜ r ≡ levelsOf self c ⌝ }
     {

@@ -3,8 +3,8 @@ use Prim.Native.Nat.{_-_}
 use Rattle.lists.proofs.Tested.{Tested, tested-cases}
 use Rattle.relay.specs.Settings.{restraintInRange, restraintsSound}
 use borrow.Author.Needs.{needs}
-use Rattle.relay.proofs.levels.restraints_in_range.Statement.{statement}
-use Rattle.relay.proofs.levels.restraints_in_range.Tie as tie
+use Rattle.relay.proofs.limits.restraints_in_range.Statement.{statement}
+use Rattle.relay.proofs.limits.restraints_in_range.Tie as tie
 
 abbrev Inv-loop : tie.InvT-loop
 Inv-loop restraint ok₀ k₀ ok k = Tested 3 (restraintInRange restraint) ok k

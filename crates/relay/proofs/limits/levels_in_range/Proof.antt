@@ -4,8 +4,8 @@ use Rattle.lists.proofs.Tested.{Tested, tested-cases}
 use Rattle.relay.specs.Settings.{levelInRange}
 use borrow.Author.Needs.{needs}
 use lib.ListN.{length}
-use Rattle.relay.proofs.levels.levels_in_range.Statement.{statement}
-use Rattle.relay.proofs.levels.levels_in_range.Tie as tie
+use Rattle.relay.proofs.limits.levels_in_range.Statement.{statement}
+use Rattle.relay.proofs.limits.levels_in_range.Tie as tie
 
 abbrev Inv-loop : tie.InvT-loop
 Inv-loop levels ok₀ k₀ ok k = Tested (length levels) (levelInRange levels) ok k
