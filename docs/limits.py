@@ -1,5 +1,5 @@
 #!/usr/bin/env python3
-"""Computes every figure of LIMITS.md from the rules of document 01 and of Paper 8, and fails where the page says something else.
+"""Computes every figure of LIMITS.md from the rules of document 01 and of Papers 5, 6, 8 and 9, and fails where it says something else.
 
 Standard library only, about a minute on one core of its own. `say` prints a sentence made of computed figures and looks it up, word for word,
 in the page's section of the same number; `cite` names what was read by hand in a document. A number of the page that neither has
@@ -15,7 +15,8 @@ from decimal import Decimal, getcontext
 
 TAU = 2 * math.pi
 FULL = 16 * 512                        # a code of 512 in sixteenths
-OVER, LOSS, SETTLED = 4, 16, 72        # document 01: the runs, the age from which frames count
+OVER, LOSS, SETTLED = 4, 16, 72        # the bench program's run lengths; the age from which frames count
+LENGTHS = range(1, 25)                 # Paper 9: what either length may be
 SIX = (0.5, 1, 2, 3, 4, 5)             # time constants of documents 000 and 003, in cycles
 TAUS = (0.5, 0.65, 1, 2, 3, 4, 5)      # and the one where the overreach is greatest
 LEVELS = (10, 15, 20, 30, 50, 100)     # restraint levels r of section 8
@@ -114,9 +115,11 @@ def exact(w):
     return (16 * (a * a + c * c) + 8 * (b * b + d * d) + 16 * (a * b + c * d) * Decimal(2).sqrt()).sqrt()
 
 
-def channel(calls, pickup, drop, r=0):
-    """One current channel by document 01 and Papers 5, 6 and 8. A call is (sample, its bit), with bit 6 on, (sample, its bit, bit 6), 'reset' or
-    new levels ('levels', pickup, drop, r). For each frame: m, over latch, loss latch, output bit, and the whole state that the next call finds."""
+def channel(calls, pickup, drop, r=0, over_length=OVER, loss_length=LOSS):
+    """One current channel by document 01 and Papers 5, 6, 8 and 9. A call is (sample, its bit), with bit 6 on, (sample, its bit, bit 6), 'reset' or
+    new levels ('levels', pickup, drop, r). For each frame: m, over latch, loss latch, output bit, and the whole state that the next call finds;
+    the run lengths are fixed when the relay is made."""
+    assert over_length in LENGTHS and loss_length in LENGTHS
     w, age, slot, over, loss, lo, ll, out = [0] * 8, 0, 0, 0, 0, False, False, []
     was = True
     for c in calls:
@@ -140,9 +143,9 @@ def channel(calls, pickup, drop, r=0):
         elif not on:
             over = loss = 0
         else:
-            loss = min(LOSS, loss + 1) if m < drop else 0
-            over = min(OVER, over + 1) if m >= pickup and (r == 0 or 100 * second(w) < r * m) else 0
-        ll, lo = ll or loss == LOSS, lo or over == OVER
+            loss = min(loss_length, loss + 1) if m < drop else 0
+            over = min(over_length, over + 1) if m >= pickup and (r == 0 or 100 * second(w) < r * m) else 0
+        ll, lo = ll or loss == loss_length, lo or over == over_length
         slot = (slot + 1) % 8
         out.append((m, lo, ll, (lo or ll) and on, (tuple(w), age, slot, was, over, loss, lo, ll)))
     return out
@@ -233,8 +236,8 @@ def opening():
     print('  bench figures 0, 0, 1603, 400, 399, frames 75, none, 87:', got, over[0], never, loss[0])
     assert (got, over[0], never, loss[0]) == ([0, 0, 1603, 400, 399], 75, [], 87)
     say('full scale (512 codes) is %s. A frame is 1/480 s = %s ms, a cycle 8 frames' % (num(FULL), num(1000 / 480, 3)))
-    cite("document 01's and those of Papers 5 and 8 (document 02)", 'r (section 8) is 0 unless named', 'Documents 000 to 004', '"(02)"',
-         'document 02')
+    cite("document 01's and those of Papers 5, 6, 8 and 9 (document 02)", 'r (section 8) is 0', 'Documents 000 to 004')
+    say("the run lengths (section 10) are the bench program's, %d frames (over) and %d (loss), unless named" % (OVER, LOSS))
 
 
 def bandpass(f):
@@ -271,7 +274,7 @@ def harmonics():
 
 def flicker():
     head(2)
-    say('Over needs %d successive frames, loss %d (02); one frame on the other side sets the run to 0' % (OVER, LOSS))
+    say('Over needs %d successive frames, loss %d (the lengths: section 10); one frame on the other side sets the run to 0' % (OVER, LOSS))
     cite('document 001, 1.6.2', 'document 004, 3.2.2,')
     # 59.5/480 = 119/960: in 960 frames the sine meets every multiple of 0.375 degrees and repeats, so phases below 0.375 degrees are all there are
     lows, highs, counts, runs = set(), set(), set(), set()
@@ -283,10 +286,11 @@ def flicker():
             highs.add(max(ms))
             counts.add(sum(m >= 3413 for m in ms))
             runs.add(max(len(list(g)) for k, g in itertools.groupby(ms + ms, lambda m: m >= 3413) if k))
-    assert max(runs) < OVER
+    assert runs == {OVER - 1}
     say('A 59.5 Hz sine of exactly pickup 3,413 reads %s, at or above it in %s of 960 frames, longest run %d'
         % (span(lows | highs), span(counts), max(runs)))
-    say('it never trips (samples repeat after 960 frames; 16 phases to each 0.375°)')
+    say('at over length %d or more it never trips, at 1 to %d it does (samples repeat after 960 frames; 16 phases to each 0.375°)'
+        % (max(runs) + 1, min(runs)))
 
     # the greatest pickup that one bad code trips, for each slot; a lower one meets the same m
     top = {}
@@ -297,7 +301,7 @@ def flicker():
     print('  greatest pickup that one bad sample trips, by code and slot:', top)
     parts = [{top[code, slot] for slot in range(parity, 8, 2)} for code in (0, 1023) for parity in (0, 1)]
     assert all(len(part) == 1 for part in parts)
-    say('A sample stays in the window for eight frames, twice the over run')
+    say('A sample stays in the window for eight frames, twice an over length of %d' % OVER)
     say('In a dead channel (all others code 512) one code 0 trips pickups up to %s in an even slot (even frame number), %s in an odd one; one '
         'code 1023 up to %s and %s' % tuple(num(*part) for part in parts))
     # only differences count, so a bad code among others at any one code reads as its distance among zeros
@@ -335,8 +339,8 @@ def flicker():
                 r = channel(enabled([s if n % gap == first else 0 for n in range(600)]), 10700, 819)
                 assert r[-1][2] == on
                 assert on or r[300][4] == r[300 + 8 * gap][4]
-    say('In a dead channel with drop 819, one sample of ±300 codes every 23 frames keeps loss off for good (the relay is as it was %d frames before)'
-        % (8 * 23))
+    say('In a dead channel with drop 819, loss length %d, one sample of ±300 codes every 23 frames keeps loss off for good '
+        '(state as %d frames before)' % (LOSS, 8 * 23))
 
 
 def offset_wave(a, alpha, tau, d, n):
@@ -370,7 +374,7 @@ def offset():
     assert fine[0.65] == max(fine.values())
     say('Decaying offset: overreach up to %s %%' % num(max(tops), 1))
     say('A = 250 codes, 72 angles, 8 instants between frames, 40 frames; % of A')
-    say('in %d successive frames' % OVER)
+    say('in %d successive frames: what a pickup feels at length %d (at 1 the maximum)' % (OVER, OVER))
     row('τ, cycles', *map(str, TAUS))
     row('Maximum of m', *(num(v, 1, '+') for v in tops))
     row('Held four frames', *(num(v, 1, '+') for v in helds))
@@ -416,7 +420,7 @@ def frequency():
     row('Hz', *map(str, hertz))
     row('Least m', *(num(v, 2) for v in lows))
     row('Greatest m', *(num(v, 2) for v in highs))
-    row('Highest pickup tripped in 1 s in all of them', *(num(v, 2) for v in helds))
+    row('Highest pickup tripped in 1 s in all of them (over length %d)' % OVER, *(num(v, 2) for v in helds))
     cite('Document 004, 2.6.5,', '56.5 and 66 Hz are from its 5.3.5')
     tops = list(map(leak, hertz))
     row('Greatest second harmonic m2, % of m (from slot 0)', *(num(v, 2) for v in tops))
@@ -511,11 +515,18 @@ def onset():
     times = (1.05, 1.1, 1.5, 2, 5)
     rows = [], [], []
     for k in times:
-        rows[0].append(cell(set.union(*(tripped(sine(50 * k, p) * 4) for p in every(50 * k)))))
+        full = set()                                             # the first frame at or above pickup; no later one is below it (section 10)
+        for p in every(50 * k):
+            w = sine(50 * k, p)
+            for first in range(8):
+                met = [m >= 800 for m in frames(w, first)]
+                assert met[7] and met == sorted(met)
+                full.add(1 + met.index(True))
+        rows[0].append(cell({n + OVER - 1 for n in full}))
         rows[1].append(cell(set.union(*(tripped(offset_wave(50 * k, p, tau, d / 4, 40)) for p in phases(36) for tau in TAUS for d in range(4)))))
         rows[2].append(cell(set.union(*(tripped(s) for p in phases(24) for s in filtered(lambda t: 50 * k * math.cos(TAU * 60 * t + p), 80))))
                        if k > 1.05 else '–')
-    say('Pickup 800 (50 codes)')
+    say('Lengths %d and %d. Pickup 800 (50 codes)' % (OVER, LOSS))
     row('Over: from zero to × pickup', *map(str, times))
     row('Pure sine, every phase', *rows[0])
     row('With the offset of section 3, 36 angles, 4 instants', *rows[1])
@@ -532,13 +543,13 @@ def onset():
             for s in filtered(lambda t: 400 * math.cos(TAU * 60 * t + p) if t < 0.2 else 0.0, 96 + 80) for first in range(8)}
     row('Loss: sine of 400 codes to zero, drop in % of it', *map(str, drops), '10, behind the band-pass')
     row('Frames (ms)', *(cell(last[q]) for q in drops), cell(slow))
-    say('A trip before frame %d counts windows that still hold old samples' % (8 + OVER - 1))
+    say('At length %d a trip before frame %d counts windows with old samples' % (OVER, 8 + OVER - 1))
     cite('(document 003, 2.3.2)', 'Document 001, chapter 2, measured 0.0694 s, "about 4 cycles"')
-    cite('its over run trips in the fifth frame (A.13), ours in the fourth')
+    say('its over run trips in the fifth frame (A.13), ours at length %d in the fourth' % OVER)
     over = next(k for k, r in enumerate(channel(enabled(sine(400, 0, 120)), 1, 1)) if r[1])
     loss = next(k for k, r in enumerate(channel(enabled([0] * 120), 1, 1)) if r[2])
-    say('Frames 0 to %d (%s s) count no run: the earliest over latch is in frame %d (%s ms after frame 0), loss in frame %d (%s ms)'
-        % (SETTLED - 1, num(SETTLED / 480, 2), over, num(over / 0.48), loss, num(loss / 0.48)))
+    say('Frames 0 to %d (%s s) count no run: at lengths %d and %d the earliest over latch is in frame %d (%s ms after frame 0), loss in '
+        'frame %d (%s ms)' % (SETTLED - 1, num(SETTLED / 480, 2), OVER, LOSS, over, num(over / 0.48), loss, num(loss / 0.48)))
     cite('The same again from each frame in which bit 6 returns (section 9)')
 
 
@@ -570,9 +581,9 @@ def saturated(a, alpha, tau, limit, flux, d, sub=8):
             yield sample(a * (math.cos(angle) - c * e)) if flux == free else 0
 
 
-def trips(samples, before=(0,) * 8, pickup=800):
+def trips(samples, before=(0,) * 8, pickup=800, run=OVER):
     """Frames until over latches, for r = 0 and then for LEVELS from the greatest down (none is earlier than the one before), as far as it does."""
-    w, last, got, rs = list(before), [math.inf] * OVER, [], (math.inf,) + LEVELS[::-1]
+    w, last, got, rs = list(before), [math.inf] * run, [], (math.inf,) + LEVELS[::-1]
     for n, s in enumerate(samples):
         w[n % 8] = s
         m = amplitude(w)
@@ -618,11 +629,17 @@ def restraint():
     least = {b: min(map(ratio, both(b))) for b in range(180, 270)}
     some = (10, 15, 20, 30)
     ends = [next(b - 1 for b in least if least[b] < r) for r in some]
-    for b in (*widths, *ends):                                   # from the first pulse on: what blocks the steady pulses blocks them
+    early = {run: set() for run in (1, 2, OVER)}                 # from the first pulse on: what blocks the steady pulses blocks them
+    for b in (*widths, *ends):
         for w in both(b):
-            assert len(trips(w * 3, pickup=1)) == 1 + sum(r > ratio(w) for r in LEVELS)
+            feeds = 1 + sum(r > ratio(w) for r in LEVELS)
+            for run in early:
+                if len(trips(w * 3, pickup=1, run=run)) != feeds:
+                    early[run].add(b)
+    assert not early[2] and not early[OVER]                      # a run that length 2 does not find no greater length finds
     say('r = %s, %s, %s, %s block pulses of up to β = %s, %s, %s, %s (in steps of 1 from 180)' % (*some, *ends))
-    say('from the first pulse on (pickup 1, the β named here)')
+    say('from the first pulse on (pickup 1, the β named here, over length 2 or more; at 1 the first pulse can trip, β = %s)'
+        % ' and '.join(map(str, sorted(early[1]))))
     cite('changes neither m nor m2 unless it clips')
     assert all(f([s + z for s in w]) == f(w) for f in (amplitude, second) for z in (-250, -1, 1, 200) for w in both(240)[:360])
     got = [ratio(pulses(s * 250, 240, p, s * 250 * content(1, 240))) for p in phases(360) for s in (1, -1)]
@@ -640,7 +657,7 @@ def restraint():
         % span(behind, 1))
 
     # the price
-    say('Trips later than with r = 0, at worst; pickup 800 (50 codes), 8 frames a cycle')
+    say('Trips later than with r = 0, at worst; over length %d, pickup 800 (50 codes), 8 frames a cycle' % OVER)
     row('Later than with r = 0, frames', *('r = %d' % r for r in LEVELS), '% of cases over a cycle late at r = 15')
     steps = [trips(sine(50 * k, p) * 3, sine(50 * old, q)) for k in (1.1, 1.5, 2, 5) for p in phases(72)
              for old, n in ((0, 1), (0.5, 24), (0.9, 24)) for q in phases(n)]
@@ -700,8 +717,8 @@ def restraint():
                 yield got[-1][1]
     bad = next(d for d in range(60, 100) if not any(spoilt(d, 11)))
     assert all(spoilt(bad, 12))
-    say('In a fault of 100 codes one sample in 11 that is %d codes off keeps over off for good at r = 15 (24 phases, both signs); one in 12 does not'
-        % bad)
+    say('In a fault of 100 codes one sample in 11 that is %d codes off keeps over off for good at r = 15 and over length %d (24 phases, both signs); '
+        'one in 12 does not' % (bad, OVER))
     cite('A second input with r = 0', '0 where no transformer')
     say('(%d at 63 Hz, section 4)' % (math.floor(leak(63)) + 1))
     say('by %d point from 100 codes up, by %d at 50' % (below[0][0], below[1][0]))
@@ -710,7 +727,7 @@ def restraint():
 def switches():
     head(9)
     cite('document 002, 2.3.3 and 2.3.4', 'section 7')
-    say('No inverse-time curve: always %d frames' % OVER)
+    cite('No inverse-time curve: always the over length')
     assert all(amplitude([s] * 8) == 0 for s in range(-512, 512))
     say('any constant code reads 0')
     say('Drop is at least 1')
@@ -762,14 +779,137 @@ def switches():
             for i, samples, drop in ((1, wave(400), 1), (2, [0] * 400, 819))]
     say('With a level of its own moved after every %d frames or fewer over never latches, after every %d or fewer loss does not' % tuple(kept))
     cite('New levels (Paper 6) take effect with the next frame')
+    # the same at every length: after a reset, the channel's bit, bit 6, new levels with one frame missing, bit 6 or new levels again and again
+    at = 212
+    for n in LENGTHS:
+        for i, samples, drop in ((1, wave(400), 1), (2, [0] * 400, 819)):
+            ran = lambda calls: [r[i] for r in channel(calls, 3413, drop, 0, n, n)]
+            tail = enabled(samples[at:])
+            assert ran(enabled(samples[:at]) + ['reset'] + tail).index(True, at) == at + n - 1
+            assert ran([(s, k >= at) for k, s in enumerate(samples)]).index(True) == at + n - 1
+            assert ran([(s, True, k >= at) for k, s in enumerate(samples)]).index(True) == at + SETTLED + n - 1
+            assert ran([(s, k > at - n) for k, s in enumerate(samples[:at])] + [('levels', 3412, drop + 1, 0)] + tail).index(True) == at + n - 1
+            assert [any(ran([(s, True, k % p > 0) for k, s in enumerate(samples)])) for p in (SETTLED + n, SETTLED + n + 1)] == [False, True]
+            assert any(ran(often(n, samples, drop))) and (n == 1 or not any(ran(often(n - 1, samples, drop))))
+    say('Also to know (lengths %d and %d)' % (OVER, LOSS))
     say('A refused frame (any code above 1023, enable bit 7) is lost to all six channels')
     # after the loss slot k gets what belonged to slot k + 1
     ms = [m / 64 for w in steady(400) for first in range(8) for m in readings([w[(first + 1 + j) % 8] for j in range(8)], first, w)]
     say('One lost frame is a 45° jump: m of a steady sine of 400 codes swings from %s %%, every phase' % span(ms, 1))
 
 
+def lengths():
+    head(10)
+    cite('Run lengths (Paper 9)')
+    say('Each is %d to %d frames' % (LENGTHS[0], LENGTHS[-1]))
+    # the time: the earliest latches of all lengths, and section 7's offsets at 9
+    for n in LENGTHS:
+        loud, dead = channel(enabled(sine(400, 0, 100)), 1, 1, 0, n, 1), channel(enabled([0] * 100), 1, 1, 0, 1, n)
+        assert [next(k for k, r in enumerate(rs) if r[i]) for rs, i in ((loud, 1), (dead, 2))] == [SETTLED - 1 + n] * 2
+    say('At length n the earliest latch is in frame %d + n (over and loss, all %d). Each frame of length is %s ms'
+        % (SETTLED - 1, len(LENGTHS), num(1000 / 480, 3)))
+    cite("section 7's pure sines trip as much later, and section 9's frames after a reset, an enable, bit 6 or new levels move as much")
+    # ... since in `onset` pickup, once met, is met in all later frames; `switches` tries all lengths
+    last = {}
+    for k in (1.05, 1.1, 1.5, 2, 5):
+        for s in (offset_wave(50 * k, p, tau, d / 4, 40) for p in phases(36) for tau in TAUS for d in range(4)):
+            for first in range(8):
+                run = short = 0
+                for n, m in enumerate(frames(s, first), 1):
+                    run = run + 1 if m >= 800 else 0
+                    short = short or n * (run == OVER)
+                    if run == 9:
+                        break
+                assert run == 9
+                old = last.get(k, (0, 0, False))
+                last[k] = max(old[0], short), max(old[1], n), old[2] or n - short != 9 - OVER
+    assert [last[k][2] for k in last] == [True, True, False, False, False] and last[1.05][0] == last[1.1][0]
+    say('With the offset of section 7 length 9 is %d frames (%s ms) later than %d from 1.5 × pickup on'
+        % (9 - OVER, num((9 - OVER) / 0.48, 1), OVER))
+    say('at 1.05 and 1.1 × a dip of m may break the run: frame %d (%s ms) and %d (%s ms) at the latest, not %d'
+        % (last[1.05][1], num(last[1.05][1] / 0.48, 1), last[1.1][1], num(last[1.1][1] / 0.48, 1), last[1.05][0] + 9 - OVER))
+
+    # one bad sample in a dead channel. m is 0 or `high`, and pickups between two values of m act alike: four of them stand for all 10,700
+    tops = {}
+    for code in (0, 1023):
+        for slot in range(8):
+            calls = enabled([0] * (80 + slot) + [code - 512] + [0] * 24)
+            high, = {r[0] for r in channel(calls, 1, 1)} - {0}
+            for n in LENGTHS:
+                ran = [channel(calls, p, 1, 0, n)[-1][1] for p in (1, high, high + 1, 10700)]
+                assert ran in ([True, True, False, False], [False] * 4)
+                tops[n, code, slot] = high if ran[0] else 0
+    found = {n: [tops[n, code, slot] for code in (0, 1023) for slot in range(8)] for n in LENGTHS}
+    print('  greatest pickup that one bad sample trips, by length:', {n: sorted(set(found[n])) for n in LENGTHS})
+    hit = [n for n in LENGTHS if any(found[n])]
+    assert hit == list(range(1, 1 + len(hit))) and all(found[n] == found[OVER] for n in hit)
+    say('over lengths 1 to %d can trip on one code 0 or 1023 at every pickup from 1 to %s and at none above; lengths %d to %d at no pickup'
+        % (hit[-1], num(max(tops.values())), hit[-1] + 1, LENGTHS[-1]))
+    say('(all %d, every slot, all 10,700 pickups; by slot and code the limits of section 2, the same for each of the %d)' % (len(LENGTHS), len(hit)))
+
+    # under load: the window of a steady sine is steady, so that m has one value in the eight frames with the bad sample and one in all others
+    sizes, most, least, before = (25, 50, 75, 100, 150, 170, 200, 300, 400, 500), [], [], max(tops.values())
+    for a in sizes:                                              # a higher load can trip a higher pickup
+        got = [(amplitude(w[:k] + [s] + w[k + 1:]), k, s, w) for w in steady(a) for k in range(8) for s in (-512, 511)]
+        top, low = max(got), min(got)
+        for i, (m, k, s, w) in ((1, top), (2, low)):
+            own, calls = amplitude(w), enabled((w * 11)[:80 + k] + [s] + (w * 5)[k + 1:])
+            assert [r[0] for r in channel(calls, 1, 1)[8:]] == [own] * (72 + k) + [m] * 8 + [own] * (len(calls) - 88 - k)
+            if i == 1:
+                assert own < m
+                assert all(channel(calls, m + d, 1, 0, n)[-1][1] == (d == 0 and n in hit) for d in (0, 1) for n in LENGTHS)
+            else:
+                assert m < own or low[0] >= max(map(amplitude, steady(a)))
+                assert m >= own or all(channel(calls, 10700, m + d, 0, 1, n)[-1][2] == (d == 1 and n in hit) for d in (0, 1) for n in LENGTHS)
+        most.append(num(100 * top[0] / 16 / a))
+        assert top[0] > before
+        before = top[0]
+        least.append(num(100 * (low[0] + 1) / 16 / a, 1) if low[0] < amplitude(low[3]) else '–')
+    say('Under load, a steady 60 Hz sine below pickup and not below drop, lengths 1 to %d, over and loss, can trip and %d to %d do not (one '
+        'code 0 or 1023, every phase and slot)' % (hit[-1], hit[-1] + 1, LENGTHS[-1]))
+    row('Load, codes', *map(str, sizes))
+    row('Over lengths 1 to %d can trip at pickups up to, %% of load' % hit[-1], *most)
+    row('Loss lengths 1 to %d can trip at drops from, %% of load' % hit[-1], *least)
+    small = 0
+    for a in range(25, 171):
+        for k in range(8):                                       # the peak in slot k, and three times it the other way
+            w = sine(a, -TAU * k / 8)
+            small = max(small, 100 * (amplitude(w[:k] + [max(-512, -3 * a)] + w[k + 1:]) + 1) / 16 / a)
+    say('Other codes can be worse for loss: three times the peak, reversed, trips at 25 to 170 codes of load drops from %s %% on' % num(small, 1))
+
+    # two bad samples d frames apart in a dead channel, both codes in each
+    reach, highest = [], {}
+    for d in range(1, 25):
+        pairs = [enabled([0] * (80 + k) + [s] + [0] * (d - 1) + [t] + [0] * 10) for s in (-512, 511) for t in (-512, 511) for k in range(8)]
+        ran = [[r[0] for r in channel(calls, 1, 1)] for calls in pairs]
+        n = 8 + d if d <= 8 else 8
+        assert not any(latch(ms, lambda m: m >= 1, n + 1) for ms in ran)
+        held, calls = max((max(min(ms[k:k + n]) for k in range(80, len(ms) - n + 1)), calls) for ms, calls in zip(ran, pairs))
+        assert [channel(calls, held, 1, 0, j)[-1][1] for j in LENGTHS] == [j <= n for j in LENGTHS]
+        reach.append((n, held))
+        highest[d] = max(map(four, ran))
+    top = max(highest.values())
+    assert [d for d in highest if highest[d] == top] == [4]
+    say('Two codes 0 or 1023, d = 1 to 8 frames apart, can trip lengths up to 8 + d (pickups up to %s) and length %d up to pickup %s (4 apart)'
+        % (num(min(held for n, held in reach)), OVER, num(top)))
+    # the sine of section 2 that is at pickup in up to three frames together, and one bad sample
+    bridge = 0
+    for j in range(0, 16, 4):
+        s = sine(213.3125, math.radians(0.375 * j / 16), 984, 59.5)
+        for n in range(16, 960):
+            for bad in (-512, 511):
+                ms = readings(s[n - 16:n] + [bad] + s[n + 1:n + 24], n % 8)[8:]
+                bridge = max([bridge] + [len(list(g)) for met, g in itertools.groupby(ms, lambda m: m >= 3413) if met])
+    say("Section 2's 59.5 Hz sine with one bad sample reads at or above pickup for up to %d frames (4 phases, from slot 0)" % bridge)
+    say('Over length %d or more, at %s ms more than %d' % (hit[-1] + 1, num((hit[-1] + 1 - OVER) / 0.48, 1), OVER))
+    say('(%d for that sine, %d against two bad samples)' % (bridge + 1, max(n for n, held in reach) + 1))
+    say('or a pickup above %s and above the table at the highest load' % num(max(tops.values())))
+    say('Loss length %d or more, as %d is' % (hit[-1] + 1, LOSS))
+    cite('r on (section 8)')
+
+
 if __name__ == '__main__':
-    for part in (opening, harmonics, flicker, offset, frequency, clipping, rounding, onset, restraint, switches):
+    for part in (opening, harmonics, flicker, offset, frequency, clipping, rounding, onset, restraint, switches, lengths):
         part()
     for n, text in enumerate(LEFT):
         FAULTS += ['section %d has a number that is not computed here: %s' % (n, part) for part in text.split(' # ') if re.search(r'\d', part)]

@@ -1,7 +1,7 @@
-/* Uses the archive as a firmware team would: a relay is made, fed and reset, settles again after the device switch, and
- * takes new levels; a harmonic is measured and restrains; a recording is written, read back, searched and reported. The
- * values are document 01's bench figures; each refusal occurs, with all that it answers. It says `ok`, or what
- * failed. */
+/* Uses the archive as a firmware team would: a relay is made, fed and reset, settles again after the device switch,
+ * takes new levels, and counts runs of other lengths; a harmonic is measured and restrains; a recording is written,
+ * read back, searched and reported. The values are document 01's bench figures; each refusal occurs, with all that it
+ * answers. It says `ok`, or what failed. */
 #include "export.h"
 
 #include <stdio.h>
@@ -12,16 +12,19 @@ _Static_assert(offsetof(p6k_channel, loss_run) == 16 && offsetof(p6k_channel, ov
 _Static_assert(offsetof(p6k_channel, loss_latch) == 18 && offsetof(p6k_channel, over_latch) == 19, "layout");
 _Static_assert(sizeof(p6k_levels) == 22 && offsetof(p6k_levels, drop) == 0, "layout");
 _Static_assert(offsetof(p6k_levels, pickup) == 12 && offsetof(p6k_levels, restraint) == 18, "layout");
-_Static_assert(sizeof(p6k_settings) == 22 && offsetof(p6k_settings, levels) == 0, "layout");
+_Static_assert(sizeof(p6k_lengths) == 2 && offsetof(p6k_lengths, loss) == 0, "layout");
+_Static_assert(offsetof(p6k_lengths, over) == 1, "layout");
+_Static_assert(sizeof(p6k_settings) == 24 && offsetof(p6k_settings, levels) == 0, "layout");
+_Static_assert(offsetof(p6k_settings, lengths) == 22, "layout");
 _Static_assert(sizeof(p6k_codes) == 12, "layout");
-_Static_assert(sizeof(p6k_relay) == 146 && offsetof(p6k_relay, age) == 120, "layout");
+_Static_assert(sizeof(p6k_relay) == 148 && offsetof(p6k_relay, age) == 120, "layout");
 _Static_assert(offsetof(p6k_relay, slot) == 121 && offsetof(p6k_relay, device_on) == 122, "layout");
 _Static_assert(offsetof(p6k_relay, settings) == 124, "layout");
-_Static_assert(sizeof(p6k_fresh_answer) == 148 && offsetof(p6k_fresh_answer, refusal) == 146, "layout");
-_Static_assert(sizeof(p6k_reset_answer) == 148 && offsetof(p6k_reset_answer, refusal) == 146, "layout");
-_Static_assert(sizeof(p6k_change_answer) == 148 && offsetof(p6k_change_answer, refusal) == 146, "layout");
-_Static_assert(sizeof(p6k_frame_answer) == 162 && offsetof(p6k_frame_answer, refusal) == 146, "layout");
-_Static_assert(offsetof(p6k_frame_answer, amplitudes) == 148 && offsetof(p6k_frame_answer, output) == 160, "layout");
+_Static_assert(sizeof(p6k_fresh_answer) == 150 && offsetof(p6k_fresh_answer, refusal) == 148, "layout");
+_Static_assert(sizeof(p6k_reset_answer) == 150 && offsetof(p6k_reset_answer, refusal) == 148, "layout");
+_Static_assert(sizeof(p6k_change_answer) == 150 && offsetof(p6k_change_answer, refusal) == 148, "layout");
+_Static_assert(sizeof(p6k_frame_answer) == 164 && offsetof(p6k_frame_answer, refusal) == 148, "layout");
+_Static_assert(offsetof(p6k_frame_answer, amplitudes) == 150 && offsetof(p6k_frame_answer, output) == 162, "layout");
 _Static_assert(sizeof(p6k_samples) == 16 && sizeof(p6k_estimate_answer) == 4, "layout");
 _Static_assert(offsetof(p6k_estimate_answer, amplitude) == 2, "layout");
 _Static_assert(sizeof(p6k_answer) == 16 && offsetof(p6k_answer, count) == 8, "layout");
@@ -51,10 +54,10 @@ static p6k_codes codes_at(unsigned frame)
     return codes_of(wave, frame);
 }
 
-/* Without restraint. */
+/* Without restraint, and with the bench figures' lengths. */
 static p6k_settings settings_of(uint16_t drop, uint16_t pickup)
 {
-    p6k_settings settings = {.levels = {.restraint = {0, 0, 0}}};
+    p6k_settings settings = {.levels = {.restraint = {0, 0, 0}}, .lengths = {.loss = 16, .over = 4}};
     for (int c = 0; c < 6; c++)
         settings.levels.drop[c] = drop;
     for (int c = 0; c < 3; c++)
@@ -70,12 +73,22 @@ static p6k_settings restrained(uint16_t drop, uint16_t pickup, uint8_t restraint
     return settings;
 }
 
-/* Relays are the same in all but padding: the byte before the settings and the last one. */
+/* The wave just reaches the pickups, the still channels are just below the drops; other lengths. */
+static p6k_settings lasting(uint8_t loss, uint8_t over)
+{
+    p6k_settings settings = settings_of(1, 1603);
+    settings.lengths.loss = loss;
+    settings.lengths.over = over;
+    return settings;
+}
+
+/* Relays are the same in all but padding: the byte before the settings and the one between levels and lengths. */
 static bool same(p6k_relay a, p6k_relay b)
 {
     const p6k_levels *l = &a.settings.levels, *m = &b.settings.levels;
     return memcmp(&a, &b, offsetof(p6k_relay, device_on) + sizeof a.device_on) == 0 &&
-           memcmp(l, m, offsetof(p6k_levels, restraint) + sizeof l->restraint) == 0;
+           memcmp(l, m, offsetof(p6k_levels, restraint) + sizeof l->restraint) == 0 &&
+           memcmp(&a.settings.lengths, &b.settings.lengths, sizeof a.settings.lengths) == 0;
 }
 
 /* The first of 100 frames of a wave after which channel c shows in the output, 100 if none does. */
@@ -341,6 +354,90 @@ static int harmonics(void)
     return 0;
 }
 
+/* Refused: the all-zero relay, whose lengths are 0 too. */
+static bool refused_fresh(p6k_settings settings, enum p6k_refusal refusal)
+{
+    p6k_fresh_answer answer = p6k_fresh(settings);
+    p6k_relay zero;
+    memset(&zero, 0, sizeof zero);
+    return answer.refusal == refusal && same(answer.relay, zero);
+}
+
+/* A relay that is not sound: no call takes it, and each hands it back. */
+static bool unsound(p6k_relay relay)
+{
+    p6k_frame_answer answer = p6k_frame(relay, codes_at(0), 0x7F);
+    p6k_reset_answer reset = p6k_reset(relay, 0);
+    return answer.refusal == P6K_UNSOUND_RELAY && same(answer.relay, relay) &&
+           reset.refusal == P6K_UNSOUND_RELAY && same(reset.relay, relay) &&
+           refused_change(relay, relay.settings.levels, P6K_UNSOUND_RELAY);
+}
+
+/* Frame 72 is the first that is counted: channel 3 trips with frame 71 + over length, the others with 71 + loss
+ * length. */
+static int lengths(void)
+{
+    CHECK(first_trip(lasting(16, 4), 3) == 75 && first_trip(lasting(16, 4), 0) == 87);
+    CHECK(first_trip(lasting(1, 1), 3) == 72 && first_trip(lasting(1, 1), 0) == 72);
+    CHECK(first_trip(lasting(24, 24), 3) == 95 && first_trip(lasting(24, 24), 0) == 95);
+    CHECK(first_trip(lasting(1, 24), 3) == 95 && first_trip(lasting(1, 24), 0) == 72);
+    CHECK(first_trip(lasting(24, 1), 3) == 72 && first_trip(lasting(24, 1), 5) == 95);
+    for (unsigned k = 1; k <= 24; k++) {
+        CHECK(first_trip(lasting((uint8_t)k, (uint8_t)(25 - k)), 0) == 71 + k);
+        CHECK(first_trip(lasting((uint8_t)k, (uint8_t)(25 - k)), 3) == 96 - k);
+    }
+
+    /* Refused by 21: each length below and above its range. A bad level comes before it, and so does a restraint. */
+    CHECK(refused_fresh(lasting(0, 4), P6K_BAD_LENGTH) && refused_fresh(lasting(16, 0), P6K_BAD_LENGTH));
+    CHECK(refused_fresh(lasting(25, 4), P6K_BAD_LENGTH) && refused_fresh(lasting(16, 25), P6K_BAD_LENGTH));
+    CHECK(refused_fresh(lasting(0, 0), P6K_BAD_LENGTH) && refused_fresh(lasting(255, 255), P6K_BAD_LENGTH));
+    p6k_settings wrong = lasting(0, 4);
+    wrong.levels.restraint[2] = 101;
+    CHECK(refused_fresh(wrong, P6K_BAD_RESTRAINT));
+    wrong.levels.drop[5] = 0;
+    CHECK(refused_fresh(wrong, P6K_BAD_SETTING));
+    wrong = lasting(16, 25);
+    wrong.levels.pickup[2] = 10701;
+    CHECK(refused_fresh(wrong, P6K_BAD_SETTING));
+
+    /* Runs stay at their lengths, and the lengths as they were: over frames, a reset and a change. */
+    p6k_fresh_answer made = p6k_fresh(lasting(20, 6));
+    CHECK(made.refusal == P6K_ACCEPTED);
+    CHECK(made.relay.settings.lengths.loss == 20 && made.relay.settings.lengths.over == 6);
+    p6k_relay relay = after(made.relay, 0, 76, 0x7F);
+    CHECK(relay.channels[3].over_run == 5 && relay.channels[0].loss_run == 5 && shows(relay, 77, 3) == 77);
+    p6k_levels levels = relay.settings.levels;
+    levels.pickup[0] = 1602;
+    p6k_change_answer answer = p6k_change(relay, levels);
+    CHECK(answer.refusal == P6K_ACCEPTED && answer.relay.channels[3].over_run == 0);
+    CHECK(answer.relay.settings.lengths.loss == 20 && answer.relay.settings.lengths.over == 6);
+    CHECK(shows(answer.relay, 77, 3) == 82 && shows(answer.relay, 77, 0) == 91);
+    relay = after(relay, 77, 99, 0x7F);
+    CHECK(relay.channels[3].over_run == 6 && relay.channels[0].loss_run == 20);
+    relay = p6k_reset(relay, 0x3F).relay;
+    CHECK(relay.settings.lengths.loss == 20 && relay.settings.lengths.over == 6);
+    CHECK(shows(relay, 100, 3) == 105 && shows(relay, 100, 0) == 119);
+
+    /* Not sound: a run above its own length, though below another's; a length out of range. */
+    relay = p6k_fresh(lasting(3, 2)).relay;
+    relay.channels[0].loss_run = 3;
+    relay.channels[5].over_run = 2;
+    CHECK(p6k_reset(relay, 0).refusal == P6K_ACCEPTED);
+    p6k_relay other = relay;
+    other.channels[0].loss_run = 4;
+    CHECK(unsound(other));
+    other = relay;
+    other.channels[5].over_run = 3;
+    CHECK(unsound(other));
+    other = relay;
+    other.settings.lengths.loss = 25;
+    CHECK(unsound(other));
+    other = p6k_fresh(lasting(3, 2)).relay;
+    other.settings.lengths.over = 0;
+    CHECK(unsound(other));
+    return 0;
+}
+
 /* Refused: count 0, and what was lent is as it was. */
 static bool refused(p6k_answer answer, enum p6k_refusal refusal, const void *lent, const void *before, size_t size)
 {
@@ -417,7 +514,7 @@ static int reports(void)
 
 int main(void)
 {
-    if (relays() || settling() || changes() || harmonics() || captures() || reports())
+    if (relays() || settling() || changes() || harmonics() || lengths() || captures() || reports())
         return 1;
     puts("c/calls.c: ok");
     return 0;

@@ -44,7 +44,8 @@ enum p6k_refusal {
     P6K_WRONG_SHAPE = 12,    /* cells no multiple of seven, or channel above 5 */
     P6K_FEW_FRAMES = 13,     /* fewer than eight frames */
     P6K_BAD_ESTIMATE = 19,   /* an order outside 1 to 3, or a window sample outside -512 to 511 */
-    P6K_BAD_RESTRAINT = 20   /* a restraint level above 100 */
+    P6K_BAD_RESTRAINT = 20,  /* a restraint level above 100 */
+    P6K_BAD_LENGTH = 21      /* a run length outside 1 to 24 */
 };
 
 #define P6K_FRAME_CELLS 7      /* the cells of a frame: six codes, then the enable byte */
@@ -69,8 +70,8 @@ enum p6k_refusal {
 /* Channels 0, 1, 2 are voltages; 3, 4, 5 are currents. A voltage has no over run and no over latch: 0 and false. */
 typedef struct {
     int16_t samples[8]; /* by slot, -512 to 511 */
-    uint8_t loss_run;   /* 0 to 16 */
-    uint8_t over_run;   /* 0 to 4 */
+    uint8_t loss_run;   /* 0 to the relay's loss length */
+    uint8_t over_run;   /* 0 to the relay's over length */
     bool loss_latch;
     bool over_latch;
 } p6k_channel;
@@ -84,9 +85,17 @@ typedef struct {
     uint8_t restraint[3]; /* 0 off, or 1 to 100 */
 } p6k_levels;
 
+/* How many successive counted frames make a full run and turn the latch on, 1 to 24: one pair for the device, fixed
+ * when it is made. Either may be the greater. The bench program has 16 and 4. */
+typedef struct {
+    uint8_t loss;
+    uint8_t over;
+} p6k_lengths;
+
 /* All that a relay is made with. */
 typedef struct {
     p6k_levels levels;
+    p6k_lengths lengths;
 } p6k_settings;
 
 /* The relay goes in and comes back by value; the caller keeps it. */
@@ -153,7 +162,7 @@ typedef struct {
     size_t length;
 } p6k_part;
 
-/* A fresh relay. Checks 1, 20; refused: the all-zero relay. */
+/* A fresh relay. Checks 1, 20, 21; refused: the all-zero relay. */
 p6k_fresh_answer p6k_fresh(p6k_settings settings);
 
 /* One frame. enable: bits 0 to 5 enable channels, bit 6 the device; with bit 6 on after a frame with it off, the relay
@@ -163,10 +172,11 @@ p6k_frame_answer p6k_frame(p6k_relay relay, p6k_codes codes, uint8_t enable);
 /* Clears runs and latches of the channels that mask's bits 0 to 5 name. Checks 2, 5; refused: the relay as given. */
 p6k_reset_answer p6k_reset(p6k_relay relay, uint8_t mask);
 
-/* New levels, all of them, while the relay goes on. Windows, slot, age, latches and the remembered bit 6 carry over. A
- * run carries over where its own level is equal, the drop for a loss run, pickup and restraint for an over run;
- * otherwise it becomes 0. Levels changed and changed back are two changes: the run is 0. Checks 2, 1, 20; refused: the
- * relay as given. Latches and bit 6 are bools: of one that came in as a byte other than 0 or 1 nothing is promised. */
+/* New levels, all of them, while the relay goes on; its lengths stay. Windows, slot, age, latches and the remembered
+ * bit 6 carry over. A run carries over where its own level is equal, the drop for a loss run, pickup and restraint for
+ * an over run; otherwise it becomes 0. Levels changed and changed back are two changes: the run is 0. Checks 2, 1, 20;
+ * refused: the relay as given. Latches and bit 6 are bools: of one that came in as a byte other than 0 or 1 nothing is
+ * promised. */
 p6k_change_answer p6k_change(p6k_relay relay, p6k_levels levels);
 
 /* The amplitude of one window for an order: 1 for the fundamental, which a frame answers, 2 or 3 for that harmonic.

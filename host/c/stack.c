@@ -88,7 +88,7 @@ static const struct {
     {"known", known, 10256},
 };
 static size_t deepest[CALLS];
-static unsigned refusals[P6K_BAD_RESTRAINT + 1], refusals_of_changes[P6K_BAD_RESTRAINT + 1];
+static unsigned refusals[P6K_BAD_LENGTH + 1], refusals_of_changes[P6K_BAD_LENGTH + 1];
 
 /* Two paints, since a byte that was written may be the paint of one. The call goes first on the program's own stack,
  * for a dynamic linker's look-up. */
@@ -127,10 +127,12 @@ static void calls_on_the_relay(unsigned n)
     }
 }
 
-/* Relays without restraint and with it that are fresh, settled, tripped, settling again and not sound, and what refuses
- * a frame, a reset or a change. */
-static void relays(uint8_t restraint)
+/* Relays without restraint and with it, and of some lengths, that are fresh, settled, tripped, settling again and not
+ * sound, and what refuses a frame, a reset or a change. */
+static void relays(uint8_t restraint, uint8_t loss, uint8_t over)
 {
+    settings.lengths.loss = loss;
+    settings.lengths.over = over;
     for (int c = 0; c < 6; c++)
         settings.levels.drop[c] = 819;
     for (int c = 0; c < 3; c++) {
@@ -154,6 +156,9 @@ static void relays(uint8_t restraint)
     calls_on_the_relay(0);
     relay.channels[5].samples[7] = 512;
     calls_on_the_relay(0);
+    settings.lengths.over = 25;
+    measure(FRESH);
+    refusals[made.refusal]++;
     settings.levels.restraint[2] = 101;
     measure(FRESH);
     refusals[made.refusal]++;
@@ -234,8 +239,9 @@ static void captures(void)
 int main(void)
 {
     int failed = 0;
-    relays(0);
-    relays(15);
+    relays(0, 16, 4);
+    relays(15, 16, 4);
+    relays(15, 1, 24);
     estimates();
     captures();
     measure(KNOWN);
@@ -243,7 +249,7 @@ int main(void)
         puts("failed: the depths are not measured");
         failed = 1;
     }
-    for (int n = P6K_ACCEPTED; n <= P6K_BAD_RESTRAINT; n++)
+    for (int n = P6K_ACCEPTED; n <= P6K_BAD_LENGTH; n++)
         if (refusals[n] == 0 && (n <= P6K_FEW_FRAMES || n >= P6K_BAD_ESTIMATE)) {
             printf("failed: no call was answered with %d\n", n);
             failed = 1;

@@ -38,6 +38,8 @@ pub mod refusal {
     pub const BAD_ESTIMATE: u8 = 19;
     /// A restraint level above 100.
     pub const BAD_RESTRAINT: u8 = 20;
+    /// A run length outside 1 to 24.
+    pub const BAD_LENGTH: u8 = 21;
 }
 
 /// The cells of a frame: six codes, then the enable byte.
@@ -74,11 +76,21 @@ pub struct Levels {
     pub restraint: [u8; 3],
 }
 
+/// How many successive counted frames make a full run and turn the latch on, 1 to 24: one pair for the device, fixed
+/// when it is made.
+#[repr(C)]
+#[derive(Clone, Copy, Debug, Default, PartialEq, Eq)]
+pub struct Lengths {
+    pub loss: u8,
+    pub over: u8,
+}
+
 /// All that a relay is made with.
 #[repr(C)]
 #[derive(Clone, Copy, Debug, Default, PartialEq, Eq)]
 pub struct Settings {
     pub levels: Levels,
+    pub lengths: Lengths,
 }
 
 /// Any value may be handed in: a relay that is not sound is refused and comes back as it was. `device_on` is bit 6 of
@@ -185,7 +197,7 @@ mod raw {
 }
 
 impl Relay {
-    /// A fresh relay, or with 1 or 20 the all-zero one.
+    /// A fresh relay, or with 1, 20 or 21 the all-zero one.
     pub fn fresh(settings: Settings) -> FreshAnswer {
         unsafe { raw::p6k_fresh(settings) }
     }
@@ -202,7 +214,8 @@ impl Relay {
     }
 
     /// New levels, all of them, while the relay goes on. A run is kept where its own level is equal (loss: the drop;
-    /// over: pickup and restraint) and is 0 otherwise; all else stays. With 2, 1 or 20 the relay as given.
+    /// over: pickup and restraint) and is 0 otherwise; all else stays, the lengths too. With 2, 1 or 20 the relay as
+    /// given.
     pub fn change(self, levels: Levels) -> ChangeAnswer {
         unsafe { raw::p6k_change(self, levels) }
     }

@@ -1,17 +1,21 @@
 //! Fresh, frame, reset, change and estimate of the archive against the second implementation: random lists of calls on
 //! relays that the archive itself hands back, with refused calls and resets among them, levels next to the amplitudes,
 //! restraint next to the second harmonic, and the device switched off and on; lists of the second implementation's own,
-//! in which levels are changed as well; single calls on relays that a caller made up; and estimates. Every answer is
-//! compared whole. `cargo test --release --test calls -- --long` runs twenty times as much.
+//! in which levels are changed as well; single calls on relays that a caller made up; and estimates. Then lists of both
+//! makes, and single calls, on relays with run lengths of their own. Every answer is compared whole. `cargo test
+//! --release --test calls -- --long` runs twenty times as much.
 
 mod support;
 
 use reference::prng::Prng;
 use reference::relay::{frame_refusal, is_enabled, is_sound, levels_refusal, reset_refusal, settings_refusal};
-use reference::relay::{FIRST_CURRENT, FULL_AGE, HIGHEST_LEVEL, HIGHEST_RESTRAINT};
+use reference::relay::{Lengths, FIRST_CURRENT, FULL_AGE, HIGHEST_LENGTH, HIGHEST_LEVEL, HIGHEST_RESTRAINT};
 use reference::trace::{self, RunsAtChanges};
 use reference::{amplitude, amplitude_of_order, Call, Exact, History, Latch, Levels, Settings};
 use support::{Flags, Refusals};
+
+/// The bench program's lengths: the older lists keep them.
+const BENCH: Lengths = Lengths { loss: 16, over: 4 };
 
 /// What the calls met, so that a run that saw little fails.
 #[derive(Default)]
@@ -33,6 +37,28 @@ struct Seen {
     by_restraint: [u64; 2],
     /// Accepted estimates by order.
     estimates: [u64; 3],
+    lengths: ByLengths,
+}
+
+/// Run lengths. Of each pair the first is of loss, the second of over, unless it says otherwise.
+#[derive(Clone, Copy, Default)]
+struct ByLengths {
+    /// Fresh relays refused by 1, and by 20, where a length is out of range too.
+    first: [u64; 2],
+    /// Latches that went on with a loss length above 16, an over length above 4.
+    long: [u64; 2],
+    /// Latches that went on with a length below 16, below 4.
+    short: [u64; 2],
+    /// Frames of the lists whose output byte is another with lengths 16 and 4, and with the two lengths exchanged.
+    told: [u64; 2],
+    /// Relays handed in that nothing but runs above their own length, yet at most 24, make unsound; and how many of
+    /// these have no run that is above 16, above 4.
+    above: [u64; 2],
+    above_low: [u64; 2],
+    /// Sound relays handed in with a loss run above 16, an over run above 4.
+    beyond: [u64; 2],
+    /// Relays handed in that nothing but a length makes unsound: by 0, and by one above 24.
+    out_of_range: [u64; 2],
 }
 
 /// Currents that are enabled in a counted frame, reach their pickup and have restraint on: how many feed the run, how many do not, and of these
@@ -57,7 +83,7 @@ struct Settling {
     refused: [u64; 3],
     /// Rises with an accepted reset between them and the frame with bit 6 off.
     resets: u64,
-    /// Loss and over latches that went on after a rise, and how many of them as soon as can be, in T + 87 and T + 75.
+    /// Loss and over latches that went on after a rise, and how many of them as soon as can be, in T + 71 + length.
     latched: [u64; 2],
     at_once: [u64; 2],
     /// Frames whose output byte is another on a relay that does not settle again.
@@ -88,7 +114,8 @@ fn levels_of(of: &Levels) -> host::Levels {
 }
 
 fn settings_of(of: &Settings) -> host::Settings {
-    host::Settings { levels: levels_of(&of.levels) }
+    let Lengths { loss, over } = of.lengths;
+    host::Settings { levels: levels_of(&of.levels), lengths: host::Lengths { loss, over } }
 }
 
 fn relay_of(of: &reference::Relay) -> host::Relay {
@@ -176,6 +203,37 @@ fn spoiled(mut levels: Levels, prng: &mut Prng) -> Levels {
     levels
 }
 
+/// A length: often an end of the range or one of the bench program's.
+fn length(prng: &mut Prng) -> u8 {
+    if prng.once_in(2) {
+        [1, 4, 16, 24][prng.below(4) as usize]
+    } else {
+        prng.within(1, i64::from(HIGHEST_LENGTH)) as u8
+    }
+}
+
+fn lengths(prng: &mut Prng) -> Lengths {
+    Lengths { loss: length(prng), over: length(prng) }
+}
+
+/// One of them out of range, or both.
+fn spoiled_lengths(mut lengths: Lengths, prng: &mut Prng) -> Lengths {
+    let mut wrong = || [0, 0, 25, 26, 128, 255][prng.below(6) as usize];
+    let (loss, over) = (wrong(), wrong());
+    let which = prng.below(3);
+    if which != 0 {
+        lengths.loss = loss;
+    }
+    if which != 1 {
+        lengths.over = over;
+    }
+    lengths
+}
+
+fn in_range(lengths: &Lengths) -> bool {
+    [lengths.loss, lengths.over].iter().all(|length| (1..=HIGHEST_LENGTH).contains(length))
+}
+
 /// A fresh relay of both.
 fn fresh(settings: Settings, seen: &mut Seen) -> (host::FreshAnswer, reference::Fresh) {
     let expected = reference::fresh(settings);
@@ -183,6 +241,10 @@ fn fresh(settings: Settings, seen: &mut Seen) -> (host::FreshAnswer, reference::
     assert_eq!((made.refusal, made.relay), (expected.number, relay_of(&expected.relay)), "fresh {settings:?}");
     seen.refusals.count(made.refusal);
     seen.calls += 1;
+    let wrong = !in_range(&settings.lengths);
+    seen.lengths.first[0] += u64::from(wrong && made.refusal == 1);
+    seen.lengths.first[1] += u64::from(wrong && made.refusal == 20);
+    assert!(!wrong || made.refusal != 0, "fresh {settings:?}");
     (made, expected)
 }
 
@@ -194,7 +256,9 @@ fn fresh_of_any(prng: &mut Prng, seen: &mut Seen) {
     let restraint = std::array::from_fn(|_| restraint(&wave, prng));
     let levels = Levels { drop, pickup, restraint };
     let levels = if prng.once_in(2) { spoiled(levels, prng) } else { levels };
-    fresh(Settings { levels }, seen);
+    let lengths = lengths(prng);
+    let lengths = if prng.once_in(3) { spoiled_lengths(lengths, prng) } else { lengths };
+    fresh(Settings { levels, lengths }, seen);
 }
 
 /// Bit 6 in the accepted frames of a list, and for how many more it stays so. In a third of the lists it is always on.
@@ -290,7 +354,7 @@ impl Source {
 }
 
 /// A list of calls on one relay.
-fn list(prng: &mut Prng, seen: &mut Seen, by_history: bool) {
+fn list(prng: &mut Prng, seen: &mut Seen, by_history: bool, lengths: Lengths) {
     let waves = std::array::from_fn(|_| Wave::random(prng));
     let mut source = Source { waves, channels: 0x3F, switch: Switch::random(prng), frames: 0 };
     let drop = source.waves.map(|wave| level(&wave, prng));
@@ -300,8 +364,8 @@ fn list(prng: &mut Prng, seen: &mut Seen, by_history: bool) {
     if prng.once_in(25) {
         levels = spoiled(levels, prng);
     }
-    let settings = Settings { levels };
-    // After refusals 1 and 20 the all-zero relay is handed on: each call is refused by 2.
+    let settings = Settings { levels, lengths };
+    // After refusals 1, 20 and 21 the all-zero relay is handed on: each call is refused by 2.
     let length = if settings_refusal(&settings) == 0 { prng.below(500) } else { 10 };
     let calls: Vec<Call> = (0..length).map(|_| source.call(prng)).collect();
     play(settings, &calls, seen, by_history);
@@ -313,6 +377,8 @@ fn play(settings: Settings, calls: &[Call], seen: &mut Seen, by_history: bool) {
     let mut step = Step { ours: made.relay, theirs: expected.relay, shown: 0, hidden: 0 };
     let mut watch = Watch::of(expected.relay);
     let mut wrong = [true, false].map(|keeps| WrongChange { keeps, relay: expected.relay });
+    let exchanged = Lengths { loss: settings.lengths.over, over: settings.lengths.loss };
+    let mut other = [BENCH, exchanged].map(|lengths| reference::fresh(Settings { lengths, ..settings }).relay);
     let mut answers = Vec::new();
     for &call in calls {
         let before = step.theirs;
@@ -323,6 +389,9 @@ fn play(settings: Settings, calls: &[Call], seen: &mut Seen, by_history: bool) {
         watch.look_at(call, &before, &step.ours, output, &mut seen.settling);
         for (told, wrong) in seen.changes.told.iter_mut().zip(&mut wrong) {
             *told += u64::from(wrong.output(call) != output);
+        }
+        for (told, relay) in seen.lengths.told.iter_mut().zip(&mut other).filter(|_| settings.lengths != BENCH) {
+            *told += u64::from(output_of(relay, call) != output);
         }
         answers.push((output, step.ours));
     }
@@ -351,6 +420,17 @@ fn changes_back(settings: Settings, calls: &[Call]) -> u64 {
     back
 }
 
+/// Makes a call on a relay of the second implementation: the output byte, 0 for a reset or a change.
+fn output_of(relay: &mut reference::Relay, call: Call) -> u8 {
+    if let Call::Frame { codes, enable } = call {
+        let answer = reference::frame(*relay, codes, enable);
+        *relay = answer.relay;
+        return answer.output;
+    }
+    *relay = trace::play(*relay, &call).0;
+    0
+}
+
 /// A relay whose accepted changes keep every run, or make every run 0.
 struct WrongChange {
     keeps: bool,
@@ -361,20 +441,15 @@ impl WrongChange {
     /// The output byte of a call, 0 for a reset or a change.
     fn output(&mut self, call: Call) -> u8 {
         match call {
-            Call::Frame { codes, enable } => {
-                let answer = reference::frame(self.relay, codes, enable);
-                self.relay = answer.relay;
-                return answer.output;
-            }
             Call::Change(levels) if levels_refusal(&levels) == 0 => {
                 self.relay.settings.levels = levels;
                 for channel in self.relay.channels.iter_mut().filter(|_| !self.keeps) {
                     (channel.loss_run, channel.over_run) = (0, 0);
                 }
+                0
             }
-            _ => self.relay = trace::play(self.relay, &call).0,
+            _ => output_of(&mut self.relay, call),
         }
-        0
     }
 }
 
@@ -439,6 +514,12 @@ impl Step {
             seen.trips[0] += u64::from(!old.loss_latch && new.loss_latch);
             seen.trips[1] += u64::from(!old.over_latch && new.over_latch);
             seen.cleared += u64::from((old.loss_latch || old.over_latch) && !(new.loss_latch || new.over_latch));
+            let Lengths { loss, over } = before.settings.lengths;
+            let went_on = [!old.loss_latch && new.loss_latch, !old.over_latch && new.over_latch];
+            for (k, (length, bench)) in [(loss, BENCH.loss), (over, BENCH.over)].into_iter().enumerate() {
+                seen.lengths.long[k] += u64::from(went_on[k] && length > bench);
+                seen.lengths.short[k] += u64::from(went_on[k] && length < bench);
+            }
         }
         output
     }
@@ -522,7 +603,8 @@ impl Watch {
         let Some(since) = self.since_rise else { return };
         for (old, new) in before.channels.iter().zip(&after.channels) {
             let latched = [!old.loss_latch && new.loss_latch, !old.over_latch && new.over_latch];
-            for (k, first) in [87, 75].into_iter().enumerate() {
+            let Lengths { loss, over } = before.settings.lengths;
+            for (k, first) in [loss, over].map(|length| 71 + u64::from(length)).into_iter().enumerate() {
                 assert!(!latched[k] || since >= first, "a latch went on in frame T + {since}");
                 seen.latched[k] += u64::from(latched[k]);
                 seen.at_once[k] += u64::from(latched[k] && since == first);
@@ -588,8 +670,8 @@ impl Restraint {
     }
 }
 
-/// "Windows, slot, age, latches and the remembered bit 6 carry over", and the levels are the new ones; "refused [...]
-/// relay as given".
+/// "Windows, slot, age, latches and the remembered bit 6 carry over", and the levels are the new ones; the lengths are
+/// "fixed when it is made"; "refused [...] relay as given".
 fn hold_to_words(before: &reference::Relay, levels: &Levels, answer: &host::ChangeAnswer) {
     let mut expected = relay_of(before);
     if answer.refusal == 0 {
@@ -619,7 +701,7 @@ fn within_2(answer: &host::FrameAnswer) {
 }
 
 /// Latches, output bytes, age, remembered bit 6 and levels after each call, by the history that is read from the list
-/// alone.
+/// alone; and the lengths, which stay.
 fn hold_to_history(settings: Settings, calls: &[Call], answers: &[(u8, host::Relay)]) {
     let history = History::of(settings, calls);
     let mut n = 0;
@@ -630,7 +712,8 @@ fn hold_to_history(settings: Settings, calls: &[Call], answers: &[(u8, host::Rel
         }
         let by_history = (history.age(place + 1), history.device_on(place + 1));
         assert_eq!((usize::from(relay.age), relay.device_on), by_history, "after call {place}");
-        assert_eq!(relay.settings.levels, levels_of(&history.levels(place + 1)), "after call {place}");
+        let by_history = Settings { levels: history.levels(place + 1), ..settings };
+        assert_eq!(relay.settings, settings_of(&by_history), "after call {place}");
         if history.frames.get(n).is_some_and(|frame| frame.place == place) {
             assert_eq!(*output, history.output(n), "frame {n}");
             n += 1;
@@ -673,6 +756,93 @@ fn change_handed_in(prng: &mut Prng, seen: &mut Seen) {
     Step { ours: relay_of(&theirs), theirs, shown: 0, hidden: 0 }.make(Call::Change(levels), seen);
 }
 
+/// A run at its length, just below it, or anywhere up to it.
+fn run(length: u8, prng: &mut Prng) -> u8 {
+    match prng.below(4) {
+        0 => prng.below(u64::from(length) + 1) as u8,
+        1 => 0,
+        _ => length.saturating_sub(prng.below(3) as u8),
+    }
+}
+
+/// A run above its own length: by one, or by more, mostly at most 24.
+fn run_above(length: u8, prng: &mut Prng) -> u8 {
+    let above = length.saturating_add(1);
+    match prng.below(8) {
+        0 => 255,
+        1..=3 => prng.within(above.into(), above.max(HIGHEST_LENGTH).into()) as u8,
+        _ => above,
+    }
+}
+
+/// Gives a relay lengths, in range or not, and runs about at them, at times above.
+fn with_lengths(relay: &mut reference::Relay, prng: &mut Prng) {
+    let own = lengths(prng);
+    let own = if prng.once_in(5) { spoiled_lengths(own, prng) } else { own };
+    relay.settings.lengths = own;
+    for (c, channel) in relay.channels.iter_mut().enumerate() {
+        channel.loss_run = run(own.loss, prng);
+        channel.over_run = if c < FIRST_CURRENT { 0 } else { run(own.over, prng) };
+    }
+    if prng.once_in(3) {
+        let current = &mut relay.channels[FIRST_CURRENT + prng.below(3) as usize];
+        if prng.once_in(2) {
+            current.over_run = run_above(own.over, prng);
+        } else {
+            relay.channels[prng.below(6) as usize].loss_run = run_above(own.loss, prng);
+        }
+    }
+}
+
+/// One call on a relay that a caller made up, with lengths of its own.
+fn lengths_handed_in(prng: &mut Prng, seen: &mut Seen) {
+    let (mut theirs, call) = if prng.once_in(4) {
+        let (relay, levels) = trace::change_arguments(prng);
+        (relay, Call::Change(levels))
+    } else {
+        let (relay, codes, enable) = trace::frame_arguments(prng);
+        let mask = prng.below(64) as u8;
+        (relay, if prng.once_in(4) { Call::Reset { mask } } else { Call::Frame { codes, enable } })
+    };
+    with_lengths(&mut theirs, prng);
+    seen.lengths.look_at(&theirs);
+    Step { ours: relay_of(&theirs), theirs, shown: 0, hidden: 0 }.make(call, seen);
+}
+
+impl ByLengths {
+    /// A relay that is handed in.
+    fn look_at(&mut self, relay: &reference::Relay) {
+        let own = relay.settings.lengths;
+        let highest = |runs: fn(&reference::Channel) -> u8| relay.channels.iter().map(runs).max().unwrap();
+        let runs = [highest(|channel| channel.loss_run), highest(|channel| channel.over_run)];
+        let above = [runs[0] > own.loss, runs[1] > own.over];
+        let mut without = *relay;
+        for channel in &mut without.channels {
+            channel.loss_run = channel.loss_run.min(own.loss);
+            channel.over_run = channel.over_run.min(own.over);
+        }
+        let sound = is_sound(relay);
+        let by_run = !sound && is_sound(&without) && runs.iter().all(|&run| run <= HIGHEST_LENGTH);
+        let low = runs[0] <= BENCH.loss && runs[1] <= BENCH.over;
+        let far = [runs[0] > BENCH.loss, runs[1] > BENCH.over];
+        for k in 0..2 {
+            self.above[k] += u64::from(by_run && above[k]);
+            self.above_low[k] += u64::from(by_run && above[k] && low);
+            self.beyond[k] += u64::from(sound && far[k]);
+        }
+        // Runs up to their lengths, of which one is out of range.
+        without.settings.lengths = Lengths { loss: HIGHEST_LENGTH, over: HIGHEST_LENGTH };
+        for channel in &mut without.channels {
+            (channel.loss_run, channel.over_run) = (0, 0);
+        }
+        if above == [false; 2] && !in_range(&own) && is_sound(&without) {
+            assert!(!sound);
+            self.out_of_range[0] += u64::from(own.loss == 0 || own.over == 0);
+            self.out_of_range[1] += u64::from(own.loss > HIGHEST_LENGTH || own.over > HIGHEST_LENGTH);
+        }
+    }
+}
+
 /// One window for an order, in range or not.
 fn estimate(prng: &mut Prng, seen: &mut Seen) {
     let spread = [3, 60, 512][prng.below(3) as usize];
@@ -708,7 +878,7 @@ fn main() {
     let lists = 4_000 * flags.times;
     let mut prng = flags.prng(1);
     for k in 0..lists {
-        list(&mut prng, &mut seen, k % 20 == 0);
+        list(&mut prng, &mut seen, k % 20 == 0, BENCH);
     }
     let (in_lists, trips, cleared, restraint) = (seen.calls, seen.trips, seen.cleared, seen.restraint);
     let mut prng = flags.prng(2);
@@ -738,11 +908,35 @@ fn main() {
     for _ in 0..100_000 * flags.times {
         change_handed_in(&mut prng, &mut made_up_changes);
     }
+    // Apart as well: lengths of their own.
+    let mut with_lengths = Seen::default();
+    let mut prng = flags.prng(7);
+    let lists_with_lengths = 2_000 * flags.times;
+    for k in 0..lists_with_lengths {
+        let own = lengths(&mut prng);
+        let own = if prng.once_in(10) { spoiled_lengths(own, &mut prng) } else { own };
+        list(&mut prng, &mut with_lengths, k % 20 == 0, own);
+    }
+    let mut prng = flags.prng(8);
+    let changing_with_lengths = 400 * flags.times;
+    for k in 0..changing_with_lengths {
+        let (settings, calls) = trace::list(&mut prng);
+        let settings = Settings { lengths: lengths(&mut prng), ..settings };
+        play(settings, &calls, &mut with_lengths, k % 4 == 0);
+    }
+    let mut made_up_lengths = Seen::default();
+    let mut prng = flags.prng(9);
+    for _ in 0..200_000 * flags.times {
+        lengths_handed_in(&mut prng, &mut made_up_lengths);
+    }
     println!(
         "calls: {in_lists} in {lists} lists, {made_up} on relays that a caller made up, {estimates} estimates, seed {}: all agree",
         flags.seed
     );
-    seen.refusals.show([1, 2, 3, 4, 5, 19, 20]);
+    seen.refusals.show([1, 2, 3, 4, 5, 19, 20, 21]);
+    let [level, restrained] = seen.lengths.first;
+    println!("  fresh relays refused with a length out of range too: by 1 {level}, by 20 {restrained}");
+    assert!(level >= 100 && restrained >= 100);
     println!("  counted frames {}, amplitudes within 2 of the exact one {}", seen.counted, seen.amplitudes);
     println!(
         "  trips in the lists: loss {}, over {}; latches cleared by a reset {}; output bits that came back with the enable {}",
@@ -785,4 +979,30 @@ fn main() {
     println!("calls: {} changes on relays that a caller made up: all agree", made_up_changes.calls);
     made_up_changes.changes.show([1, 2, 20]);
     assert!(made_up_changes.changes.first[0] >= 100);
+
+    let ByLengths { long, short, told, .. } = with_lengths.lengths;
+    let Settling { latched, at_once, .. } = with_lengths.settling;
+    println!("calls: {} with lengths of their own, in {lists_with_lengths} lists", with_lengths.calls);
+    println!("  and in {changing_with_lengths} lists of the second implementation: all agree");
+    with_lengths.refusals.show([1, 2, 3, 4, 5, 20, 21]);
+    println!("  latches of loss lengths above 16 {}, below {}", long[0], short[0]);
+    println!("  latches of over lengths above 4 {}, below {}", long[1], short[1]);
+    println!("  output bytes that tell lengths from 16 and 4: {}, from the two exchanged: {}", told[0], told[1]);
+    println!(
+        "  latches after a rise T: loss {}, in T + 71 + length {}; over {}, in T + 71 + length {}",
+        latched[0], at_once[0], latched[1], at_once[1]
+    );
+    println!("  lists held to the latch history too: {}", with_lengths.by_history);
+    assert!(long.iter().chain(&short).all(|&count| count >= 1_000) && told.iter().all(|&count| count >= 10_000));
+    assert!(latched.iter().chain(&at_once).all(|&count| count >= 100) && with_lengths.by_history >= 150);
+    let ByLengths { above, above_low, beyond, out_of_range, .. } = made_up_lengths.lengths;
+    println!("calls: {} on relays that a caller made up, with lengths of their own: all agree", made_up_lengths.calls);
+    made_up_lengths.refusals.show([1, 2, 3, 4, 20]);
+    println!(
+        "  refused by 2 for a run above its own length, at most 24: loss {}, over {}; with none above 16 and 4: {}, {}",
+        above[0], above[1], above_low[0], above_low[1]
+    );
+    println!("  sound with a loss run above 16 {}, an over run above 4 {}", beyond[0], beyond[1]);
+    println!("  refused by 2 for a length alone: 0 {}, above 24 {}", out_of_range[0], out_of_range[1]);
+    assert!(above.iter().chain(&above_low).chain(&beyond).chain(&out_of_range).all(|&count| count >= 1_000));
 }

@@ -3,7 +3,7 @@
 
 use host::{estimate, excerpt, read, refusal, report, strongest, write};
 use host::{ChangeAnswer, EstimateAnswer, FrameAnswer, FreshAnswer, ResetAnswer, StrongestWindow};
-use host::{Channel, Levels, Relay, Settings};
+use host::{Channel, Lengths, Levels, Relay, Settings};
 use host::{FRAME_CELLS, READ_ROOM, REPORT_ROOM, WRITE_ROOM};
 use std::mem::{align_of, offset_of, size_of};
 
@@ -12,27 +12,30 @@ fn layout() {
     assert_eq!((size_of::<Channel>(), align_of::<Channel>()), (20, 2));
     assert_eq!((offset_of!(Channel, loss_run), offset_of!(Channel, over_run)), (16, 17));
     assert_eq!((offset_of!(Channel, loss_latch), offset_of!(Channel, over_latch)), (18, 19));
-    // The last byte of the levels, and so of a relay, is padding; so is the one before a relay's settings.
+    // The last byte of the levels is padding; so is the one before a relay's settings.
     assert_eq!((size_of::<Levels>(), offset_of!(Levels, pickup), offset_of!(Levels, restraint)), (22, 12, 18));
-    assert_eq!((size_of::<Settings>(), offset_of!(Settings, levels)), (22, 0));
-    assert_eq!((size_of::<Relay>(), align_of::<Relay>()), (146, 2));
+    assert_eq!((size_of::<Lengths>(), offset_of!(Lengths, loss), offset_of!(Lengths, over)), (2, 0, 1));
+    assert_eq!((size_of::<Settings>(), offset_of!(Settings, levels), offset_of!(Settings, lengths)), (24, 0, 22));
+    assert_eq!((size_of::<Relay>(), align_of::<Relay>()), (148, 2));
     assert_eq!((offset_of!(Relay, age), offset_of!(Relay, slot)), (120, 121));
     assert_eq!((offset_of!(Relay, device_on), offset_of!(Relay, settings)), (122, 124));
-    assert_eq!((size_of::<FreshAnswer>(), offset_of!(FreshAnswer, refusal)), (148, 146));
-    assert_eq!((size_of::<ResetAnswer>(), offset_of!(ResetAnswer, refusal)), (148, 146));
-    assert_eq!((size_of::<ChangeAnswer>(), offset_of!(ChangeAnswer, refusal)), (148, 146));
-    assert_eq!((size_of::<FrameAnswer>(), offset_of!(FrameAnswer, refusal)), (162, 146));
-    assert_eq!((offset_of!(FrameAnswer, amplitudes), offset_of!(FrameAnswer, output)), (148, 160));
+    assert_eq!((size_of::<FreshAnswer>(), offset_of!(FreshAnswer, refusal)), (150, 148));
+    assert_eq!((size_of::<ResetAnswer>(), offset_of!(ResetAnswer, refusal)), (150, 148));
+    assert_eq!((size_of::<ChangeAnswer>(), offset_of!(ChangeAnswer, refusal)), (150, 148));
+    assert_eq!((size_of::<FrameAnswer>(), offset_of!(FrameAnswer, refusal)), (164, 148));
+    assert_eq!((offset_of!(FrameAnswer, amplitudes), offset_of!(FrameAnswer, output)), (150, 162));
     assert_eq!((size_of::<EstimateAnswer>(), align_of::<EstimateAnswer>(), offset_of!(EstimateAnswer, amplitude)), (4, 2, 2));
     assert_eq!((size_of::<host::Answer>(), offset_of!(host::Answer, count)), (16, 8));
     assert_eq!((size_of::<StrongestWindow>(), offset_of!(StrongestWindow, sum), offset_of!(StrongestWindow, frame)), (16, 4, 8));
 }
 
 const LEVELS: Levels = Levels { drop: [819; 6], pickup: [3413; 3], restraint: [0; 3] };
-const SETTINGS: Settings = Settings { levels: LEVELS };
+/// The bench program's.
+const LENGTHS: Lengths = Lengths { loss: 16, over: 4 };
+const SETTINGS: Settings = Settings { levels: LEVELS, lengths: LENGTHS };
 
 fn made_with(levels: Levels) -> FreshAnswer {
-    Relay::fresh(Settings { levels })
+    Relay::fresh(Settings { levels, ..SETTINGS })
 }
 
 /// A recording of a fault on channel 4, fed to a relay; the latch is shown until it is reset.
@@ -144,7 +147,7 @@ fn levels_are_changed_while_the_relay_runs() {
     // All that is not a run of a changed level stays; the latch too, until it is reset, and then under the new level.
     let (tripped, _) = run(relay, 75..76);
     let answer = tripped.change(raised);
-    let mut expected = Relay { settings: Settings { levels: raised }, ..tripped };
+    let mut expected = Relay { settings: Settings { levels: raised, ..SETTINGS }, ..tripped };
     expected.channels[4].over_run = 0;
     assert_eq!(answer, ChangeAnswer { relay: expected, refusal: refusal::ACCEPTED });
     assert!(expected.channels[4].over_latch && run(expected, 76..80).1.iter().all(|&output| output == 0x10));
@@ -163,6 +166,72 @@ fn levels_are_changed_while_the_relay_runs() {
         (Relay::default(), base, refusal::UNSOUND_RELAY),
     ] {
         assert_eq!(relay.change(levels), ChangeAnswer { relay, refusal: number });
+    }
+}
+
+/// A wave on channel 4 that just reaches the pickup, the other channels still and just below the drop: frame 72 is the
+/// first that is counted, and a latch goes on in frame 71 + its length. A change of levels leaves the lengths.
+#[test]
+fn run_lengths_are_settings() {
+    let wave = [612, 583, 512, 441, 412, 441, 512, 583];
+    let levels = Levels { drop: [1; 6], pickup: [1603; 3], restraint: [0; 3] };
+    for (loss, over) in (1..=24).flat_map(|loss| [1, 4, 8, 9, 16, 24, loss].map(|over| (loss, over))) {
+        let settings = Settings { levels, lengths: Lengths { loss, over } };
+        let made = Relay::fresh(settings);
+        assert_eq!((made.refusal, made.relay.settings), (refusal::ACCEPTED, settings));
+        let mut relay = made.relay;
+        for n in 0..110 {
+            let answer = relay.frame([512, 512, 512, 512, wave[n % 8], 512], 0x7F);
+            assert_eq!(answer.refusal, refusal::ACCEPTED);
+            relay = answer.relay;
+            let counted = (n + 1).saturating_sub(72);
+            let (lost, tripped) = (counted >= usize::from(loss), counted >= usize::from(over));
+            assert_eq!(answer.output, u8::from(lost) * 0x2F | u8::from(tripped) << 4, "frame {n} of {loss} and {over}");
+            assert_eq!(usize::from(relay.channels[0].loss_run), counted.min(usize::from(loss)));
+            assert_eq!(usize::from(relay.channels[4].over_run), counted.min(usize::from(over)));
+        }
+        let changed = relay.change(Levels { drop: [2; 6], ..levels });
+        assert_eq!((changed.refusal, changed.relay.settings.lengths), (refusal::ACCEPTED, settings.lengths));
+        assert_eq!((changed.relay.channels[0].loss_run, changed.relay.channels[4].over_run), (0, over));
+    }
+
+    // Refused by 21; by 1 or 20 before it. The relay handed back is all-zero, its lengths too.
+    let zeros = Relay::default();
+    for (levels, loss, over, number) in [
+        (levels, 0, 4, refusal::BAD_LENGTH),
+        (levels, 16, 0, refusal::BAD_LENGTH),
+        (levels, 25, 4, refusal::BAD_LENGTH),
+        (levels, 16, 25, refusal::BAD_LENGTH),
+        (levels, 255, 255, refusal::BAD_LENGTH),
+        (Levels { drop: [1, 1, 1, 1, 1, 0], ..levels }, 0, 4, refusal::BAD_SETTING),
+        (Levels { pickup: [1603, 1603, 10_701], ..levels }, 16, 25, refusal::BAD_SETTING),
+        (Levels { restraint: [0, 0, 101], ..levels }, 25, 0, refusal::BAD_RESTRAINT),
+    ] {
+        let answer = Relay::fresh(Settings { levels, lengths: Lengths { loss, over } });
+        assert_eq!(answer, FreshAnswer { relay: zeros, refusal: number }, "{loss} and {over}");
+    }
+
+    // Not sound: a run above its own length, or a length out of range.
+    let sound = Relay::fresh(Settings { levels, lengths: Lengths { loss: 3, over: 2 } }).relay;
+    let with = |loss_run, over_run, loss, over| {
+        let mut relay = sound;
+        (relay.channels[5].loss_run, relay.channels[5].over_run) = (loss_run, over_run);
+        relay.settings.lengths = Lengths { loss, over };
+        relay
+    };
+    for (relay, number) in [
+        (with(3, 2, 3, 2), refusal::ACCEPTED),
+        (with(24, 24, 24, 24), refusal::ACCEPTED),
+        (with(4, 2, 3, 2), refusal::UNSOUND_RELAY),
+        (with(3, 3, 3, 2), refusal::UNSOUND_RELAY),
+        (with(3, 2, 25, 2), refusal::UNSOUND_RELAY),
+        (with(3, 2, 3, 25), refusal::UNSOUND_RELAY),
+        (with(0, 2, 0, 2), refusal::UNSOUND_RELAY),
+        (with(3, 0, 3, 0), refusal::UNSOUND_RELAY),
+    ] {
+        let (frame, change) = (relay.frame([512; 6], 0x7F), relay.change(levels));
+        assert_eq!([frame.refusal, relay.reset(0).refusal, change.refusal], [number; 3], "{relay:?}");
+        assert!(number == refusal::ACCEPTED || (frame.relay == relay && change.relay == relay));
     }
 }
 

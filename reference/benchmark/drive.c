@@ -26,7 +26,7 @@ typedef p6k_relay relay_state;
 static relay_state fresh(uint16_t pickup, uint8_t restraint)
 {
     p6k_levels levels = {{819, 819, 819, 819, 819, 819}, {pickup, pickup, pickup}, {restraint, restraint, restraint}};
-    p6k_settings settings = {levels};
+    p6k_settings settings = {levels, {.loss = 16, .over = 4}};
     return p6k_fresh(settings).relay;
 }
 
@@ -65,7 +65,7 @@ static relay_state fresh(uint16_t pickup, uint8_t restraint)
     const uint16_t drops[6] = {819, 819, 819, 819, 819, 819}, pickups[3] = {pickup, pickup, pickup};
     const uint8_t restraints[3] = {restraint, restraint, restraint};
     struct relay relay;
-    relay_fresh(&relay, drops, pickups, restraints);
+    relay_fresh(&relay, drops, pickups, restraints, (struct lengths){.loss = 16, .over = 4});
     return relay;
 }
 

@@ -42,10 +42,19 @@ static void take_levels(uint16_t drop[CHANNELS], uint16_t pickup[CURRENTS], uint
         restraint[c] = (uint8_t)take();
 }
 
+static struct lengths take_lengths(void)
+{
+    struct lengths lengths;
+    lengths.loss = (uint8_t)take();
+    lengths.over = (uint8_t)take();
+    return lengths;
+}
+
 static void take_relay(struct relay *relay)
 {
     memset(relay, 0, sizeof *relay);
     take_levels(relay->drop, relay->pickup, relay->restraint);
+    relay->lengths = take_lengths();
     relay->age = (uint8_t)take();
     relay->slot = (uint8_t)take();
     relay->device_on = take() != 0;
@@ -69,9 +78,10 @@ static void same_number(long number)
 static void same_relay(const struct relay *relay)
 {
     /* The structs have no padding: the sizes are the sums of the fields' sizes.
-       device_on is the last of 144 bytes. */
+       device_on is the last of 146 bytes. */
     _Static_assert(sizeof(bool) == 1 && sizeof(struct channel) == SLOTS * 2 + 4, "no padding");
-    _Static_assert(sizeof(struct relay) == CHANNELS * 20 + CHANNELS * 2 + CURRENTS * 2 + CURRENTS + 3, "no padding");
+    _Static_assert(sizeof(struct lengths) == 2, "no padding");
+    _Static_assert(sizeof(struct relay) == CHANNELS * (20 + 2) + CURRENTS * (2 + 1) + 2 + 3, "no padding");
     struct relay expected;
     take_relay(&expected);
     if (memcmp(relay, &expected, sizeof expected) != 0)
@@ -84,8 +94,9 @@ static void check_fresh(void)
     uint8_t restraint[CURRENTS];
     struct relay relay;
     take_levels(drop, pickup, restraint);
+    struct lengths lengths = take_lengths();
     memset(&relay, 1, sizeof relay);
-    same_number(relay_fresh(&relay, drop, pickup, restraint));
+    same_number(relay_fresh(&relay, drop, pickup, restraint, lengths));
     same_relay(&relay);
 }
 

@@ -1,4 +1,4 @@
-/* Six-channel phasor relay, after document 01 and Papers 5, 6 and 8 of
+/* Six-channel phasor relay, after document 01 and Papers 5, 6, 8 and 9 of
    document 02. Every function answers the document's refusal number, 0 if the
    call is accepted. */
 #ifndef RELAY_H
@@ -17,8 +17,7 @@ enum {
     HIGHEST_RESTRAINT = 100,
     HIGHEST_ORDER = 3,
     FULL_AGE = 72,
-    FULL_LOSS_RUN = 16,
-    FULL_OVER_RUN = 4,
+    HIGHEST_LENGTH = 24,
     FRAME_CELLS = 7,
     MOST_FRAMES = 4096,
     LONGEST_CAPTURE = 53253
@@ -39,7 +38,14 @@ enum {
     REFUSED_SHAPE,
     REFUSED_TOO_FEW,
     REFUSED_ESTIMATE = 19,
-    REFUSED_RESTRAINT
+    REFUSED_RESTRAINT,
+    REFUSED_LENGTH
+};
+
+/* How many frames a full run has. */
+struct lengths {
+    uint8_t loss;
+    uint8_t over;
 };
 
 struct channel {
@@ -55,6 +61,7 @@ struct relay {
     uint16_t drop[CHANNELS];
     uint16_t pickup[CURRENTS];
     uint8_t restraint[CURRENTS];
+    struct lengths lengths;
     uint8_t age;
     uint8_t slot;
     bool device_on; /* bit 6 of the latest accepted frame; fresh, it is on */
@@ -70,7 +77,7 @@ int relay_estimate(const int16_t samples[SLOTS], uint8_t order, uint16_t *amplit
 
 /* Refused, the relay becomes all zero. Restraint 0 is off. */
 int relay_fresh(struct relay *relay, const uint16_t drop[CHANNELS], const uint16_t pickup[CURRENTS],
-                const uint8_t restraint[CURRENTS]);
+                const uint8_t restraint[CURRENTS], struct lengths lengths);
 
 /* Refused, the relay stays as it is and the answer is all zero. */
 int relay_frame(struct relay *relay, const uint16_t codes[CHANNELS], uint8_t enable, struct framed *answer);
@@ -78,7 +85,7 @@ int relay_frame(struct relay *relay, const uint16_t codes[CHANNELS], uint8_t ena
 int relay_reset(struct relay *relay, uint8_t mask);
 
 /* New levels, all of them. A run whose own level gets another value becomes 0;
-   all else carries over. Refused, the relay stays as it is. */
+   all else carries over, the lengths too. Refused, the relay stays as it is. */
 int relay_change(struct relay *relay, const uint16_t drop[CHANNELS], const uint16_t pickup[CURRENTS],
                  const uint8_t restraint[CURRENTS]);
 

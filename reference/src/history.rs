@@ -5,8 +5,8 @@
 use crate::amplitude::{amplitude, amplitude_of_order, sample, Window};
 use crate::exact::Exact;
 use crate::relay::{
-    frame_refusal, is_device_on, is_enabled, is_unrestrained, levels_refusal, reset_refusal, Levels, Settings,
-    FIRST_CURRENT, FULL_LOSS_RUN, FULL_OVER_RUN,
+    frame_refusal, is_device_on, is_enabled, is_unrestrained, levels_refusal, reset_refusal, Lengths, Levels, Settings,
+    FIRST_CURRENT,
 };
 
 #[derive(Clone, Copy, Debug, PartialEq, Eq)]
@@ -23,11 +23,12 @@ pub enum Latch {
 }
 
 impl Latch {
-    pub fn full_run(self) -> usize {
-        match self {
-            Latch::Loss => usize::from(FULL_LOSS_RUN),
-            Latch::Over => usize::from(FULL_OVER_RUN),
-        }
+    /// The frames of a full run.
+    pub fn full_run(self, lengths: &Lengths) -> usize {
+        usize::from(match self {
+            Latch::Loss => lengths.loss,
+            Latch::Over => lengths.over,
+        })
     }
 
     /// The own level of the channel's run of this kind, in these levels: the
@@ -140,13 +141,19 @@ impl History {
         History { settings, frames, resets, changes }
     }
 
+    /// The frames of a full run, by the lengths that the relay was made with: no
+    /// call of the list changes them.
+    pub fn full_run(&self, latch: Latch) -> usize {
+        latch.full_run(&self.settings.lengths)
+    }
+
     /// Whether the frames `first` and following make a full run: "16 (loss) or
     /// 4 (over) successive counted frames with the channel enabled, none
-    /// separated by an accepted reset naming it", and "between the first and
-    /// last frame of a full run no change gave its own level another value".
-    /// Successive frames are next in number.
+    /// separated by an accepted reset naming it", with the relay's lengths for 16
+    /// and 4, and "between the first and last frame of a full run no change gave
+    /// its own level another value". Successive frames are next in number.
     pub fn is_full_run(&self, latch: Latch, channel: usize, first: usize) -> bool {
-        let end = first + latch.full_run();
+        let end = first + self.full_run(latch);
         if end > self.frames.len() {
             return false;
         }
@@ -161,7 +168,7 @@ impl History {
     /// each of its frames." "The level it meets [...] is the one it ran under":
     /// that in force in the frame.
     pub fn meets_level(&self, latch: Latch, channel: usize, first: usize) -> bool {
-        self.frames[first..first + latch.full_run()].iter().all(|frame| {
+        self.frames[first..first + self.full_run(latch)].iter().all(|frame| {
             let level = frame.level(latch, channel);
             match latch {
                 Latch::Loss => frame.m[channel] < level,
@@ -175,7 +182,7 @@ impl History {
     /// such test.
     pub fn is_unrestrained(&self, latch: Latch, channel: usize, first: usize) -> bool {
         latch == Latch::Loss
-            || self.frames[first..first + latch.full_run()].iter().all(|frame| {
+            || self.frames[first..first + self.full_run(latch)].iter().all(|frame| {
                 let r = frame.levels.restraint[channel - FIRST_CURRENT];
                 is_unrestrained(r, frame.m[channel], frame.second_m[channel])
             })
@@ -191,11 +198,11 @@ impl History {
         }
         let last_reset = self.resets_naming(channel).filter(|&place| place < calls).last();
         let lies_between = |first: usize| {
-            let run = &self.frames[first..first + latch.full_run()];
+            let run = &self.frames[first..first + self.full_run(latch)];
             last_reset.map_or(true, |place| place < run[0].place) && run[run.len() - 1].place < calls
         };
         // The quick questions first: lists are long.
-        (0..(self.frames.len() + 1).saturating_sub(latch.full_run())).any(|first| {
+        (0..(self.frames.len() + 1).saturating_sub(self.full_run(latch))).any(|first| {
             lies_between(first)
                 && self.meets_level(latch, channel, first)
                 && self.is_unrestrained(latch, channel, first)

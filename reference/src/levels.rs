@@ -1,6 +1,8 @@
 //! The expected output of a test program on changed levels: short scenarios on
 //! a fresh relay, with the runs and the output byte of every counted frame.
 
+use crate::bench::LENGTHS;
+use crate::history::Call;
 use crate::relay::{change, frame, fresh, Levels, Settings, FIRST_CURRENT, FULL_AGE};
 
 /// The levels that every relay here is made with. The wave below just meets the
@@ -11,7 +13,7 @@ pub const BASE: Levels = Levels { drop: [1; 6], pickup: [1603; 3], restraint: [0
 pub const WAVE: [u16; 8] = [612, 583, 512, 441, 412, 441, 512, 583];
 pub const STILL: [u16; 8] = [512; 8];
 
-const ENABLE: u8 = 0x7F;
+pub const ENABLE: u8 = 0x7F;
 
 pub struct Scenario {
     pub name: &'static str,
@@ -64,31 +66,50 @@ pub fn text() -> String {
     scenarios().iter().map(played).collect()
 }
 
+/// Frames `from` up to `end`, the latter left out, with these codes.
+pub fn frames(codes: &[u16; 8], from: usize, end: usize) -> impl Iterator<Item = Call> + '_ {
+    (from..end).map(|n| Call::Frame { codes: [codes[n % 8]; 6], enable: ENABLE })
+}
+
 pub fn played(scenario: &Scenario) -> String {
-    let made = fresh(Settings { levels: BASE });
+    let Scenario { name, codes, last, after, changes } = scenario;
+    let mut calls: Vec<Call> = frames(codes, 0, after + 1).collect();
+    calls.extend(changes.iter().copied().map(Call::Change));
+    calls.extend(frames(codes, after + 1, last + 1));
+    played_calls(name, Settings { levels: BASE, lengths: LENGTHS }, &calls)
+}
+
+/// A list of accepted frames and of changes, on a fresh relay.
+pub fn played_calls(name: &str, settings: Settings, calls: &[Call]) -> String {
+    let made = fresh(settings);
     assert_eq!(made.number, 0);
     let mut relay = made.relay;
-    let mut text = format!("{}\n", scenario.name);
-    for n in 0..=scenario.last {
-        let answer = frame(relay, [scenario.codes[n % 8]; 6], ENABLE);
-        assert_eq!(answer.number, 0);
-        relay = answer.relay;
-        if n >= usize::from(FULL_AGE) {
-            text += &n.to_string();
-            for channel in &relay.channels {
-                text += &format!(" {}", channel.loss_run);
+    let mut n = 0;
+    let mut text = format!("{name}\n");
+    for call in calls {
+        match *call {
+            Call::Frame { codes, enable } => {
+                let answer = frame(relay, codes, enable);
+                assert_eq!(answer.number, 0);
+                relay = answer.relay;
+                if n >= usize::from(FULL_AGE) {
+                    text += &n.to_string();
+                    for channel in &relay.channels {
+                        text += &format!(" {}", channel.loss_run);
+                    }
+                    for channel in &relay.channels[FIRST_CURRENT..] {
+                        text += &format!(" {}", channel.over_run);
+                    }
+                    text += &format!(" {:02X}\n", answer.output);
+                }
+                n += 1;
             }
-            for channel in &relay.channels[FIRST_CURRENT..] {
-                text += &format!(" {}", channel.over_run);
-            }
-            text += &format!(" {:02X}\n", answer.output);
-        }
-        if n == scenario.after {
-            for &levels in &scenario.changes {
+            Call::Change(levels) => {
                 let answer = change(relay, levels);
                 relay = answer.relay;
                 text += &format!("change {}\n", answer.number);
             }
+            Call::Reset { .. } => panic!("no scenario has a reset"),
         }
     }
     text

@@ -1,11 +1,12 @@
 //! Six-channel phasor relay: a second implementation of document 01 and of
-//! Papers 5, 6 and 8 of document 02.
+//! Papers 5, 6, 8 and 9 of document 02.
 //!
 //! It is written for reading and not for speed. Quotations are from document
 //! 01, those on harmonics and restraint from Paper 8, those on the remembered
-//! bit 6 from Paper 5, those on changed levels from Paper 6. NOTES.md says how
-//! far it is independent of the proved one, and lists the decisions taken where
-//! the words could be read in two ways.
+//! bit 6 from Paper 5, those on changed levels from Paper 6, those on run lengths
+//! from Paper 9: "Wherever a rule on runs says 16 or 4 it means these." NOTES.md
+//! says how far it is independent of the proved one, and lists the decisions
+//! taken where the words could be read in two ways.
 
 pub mod amplitude;
 pub mod bench;
@@ -13,6 +14,7 @@ pub mod capture;
 pub mod cases;
 pub mod exact;
 pub mod history;
+pub mod lengths;
 pub mod levels;
 pub mod prng;
 pub mod relay;
@@ -25,8 +27,8 @@ pub use capture::{excerpt, excerpt_place, read, strongest, write, Outcome, Stron
 pub use exact::Exact;
 pub use history::{Call, History, Latch};
 pub use relay::{
-    change, frame, fresh, is_sound, levels_refusal, reset, Changed, Channel, Framed, Fresh, Levels, Relay, Reset,
-    Settings,
+    change, frame, fresh, is_sound, levels_refusal, reset, Changed, Channel, Framed, Fresh, Lengths, Levels, Relay,
+    Reset, Settings,
 };
 
 /// The refusals by number. An accepted call's number is 0.
@@ -47,4 +49,5 @@ pub mod refusal {
     pub const TOO_FEW: u8 = 13;
     pub const ESTIMATE: u8 = 19;
     pub const RESTRAINT: u8 = 20;
+    pub const LENGTH: u8 = 21;
 }

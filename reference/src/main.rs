@@ -5,8 +5,9 @@
 //! `reference restraint`: some cases played with restraint levels.
 //! `reference relay-check-restraint`: generated frames on relays with them.
 //! `reference levels`: scenarios with changed levels.
+//! `reference lengths`: relays with other run lengths than 16 and 4.
 
-use reference::{bench_text, cases, levels, played_text, relay, restraint, trace};
+use reference::{bench_text, cases, lengths, levels, played_text, relay, restraint, trace};
 use std::io::{self, Read, Write};
 use std::path::Path;
 use std::process::ExitCode;
@@ -23,13 +24,15 @@ fn main() -> ExitCode {
         ["restraint"] => io::stdout().write_all(restraint::played_cases().as_bytes()),
         ["relay-check-restraint"] => io::stdout().write_all(restraint::generated().as_bytes()),
         ["levels"] => io::stdout().write_all(levels::text().as_bytes()),
+        ["lengths"] => io::stdout().write_all(lengths::text().as_bytes()),
         ["cases", directory] => write_cases(Path::new(directory)),
         ["trace", lines] => match lines.parse() {
             Ok(lines) => io::stdout().write_all(trace::text(lines).as_bytes()),
             Err(_) => Err(io::Error::other("LINES is not a number")),
         },
         _ => Err(io::Error::other(
-            "usage: reference bench | cases DIR | trace LINES | played R | restraint | relay-check-restraint | levels",
+            "usage: reference bench | cases DIR | trace LINES | played R | restraint | relay-check-restraint | \
+             levels | lengths",
         )),
     };
     match done {

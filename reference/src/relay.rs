@@ -11,8 +11,7 @@ pub const HIGHEST_LEVEL: u16 = 10_700;
 pub const HIGHEST_RESTRAINT: u8 = 100;
 /// A frame that finds this age is counted.
 pub const FULL_AGE: u8 = 72;
-pub const FULL_LOSS_RUN: u8 = 16;
-pub const FULL_OVER_RUN: u8 = 4;
+pub const HIGHEST_LENGTH: u8 = 24;
 /// Channels 0 to 2 are voltages, 3 to 5 currents.
 pub const FIRST_CURRENT: usize = 3;
 
@@ -28,11 +27,19 @@ pub struct Levels {
     pub restraint: [u8; 3],
 }
 
-/// What a relay is made with. Whatever a change must not alter stands beside
-/// the levels; there is nothing of that kind yet.
+/// How many frames a full run has: "1 to 24, one pair for the device".
+#[derive(Clone, Copy, Debug, Default, PartialEq, Eq)]
+pub struct Lengths {
+    pub loss: u8,
+    pub over: u8,
+}
+
+/// What a relay is made with. The lengths stand beside the levels, as they are
+/// "fixed when it is made" and a change does not hand them in.
 #[derive(Clone, Copy, Debug, Default, PartialEq, Eq)]
 pub struct Settings {
     pub levels: Levels,
+    pub lengths: Lengths,
 }
 
 #[derive(Clone, Copy, Debug, Default, PartialEq, Eq)]
@@ -93,9 +100,15 @@ pub fn levels_refusal(levels: &Levels) -> u8 {
     }
 }
 
-/// The refusal number that settings alone decide.
+/// The refusal number that settings alone decide: 1, 20, and "21, and not 1, for
+/// a length outside 1 to 24, after 20".
 pub fn settings_refusal(settings: &Settings) -> u8 {
-    levels_refusal(&settings.levels)
+    let Lengths { loss, over } = settings.lengths;
+    let in_range = |length: u8| (1..=HIGHEST_LENGTH).contains(&length);
+    match levels_refusal(&settings.levels) {
+        refusal::ACCEPTED if !in_range(loss) || !in_range(over) => refusal::LENGTH,
+        number => number,
+    }
 }
 
 pub fn settings_in_range(settings: &Settings) -> bool {
@@ -109,9 +122,9 @@ pub fn is_unrestrained(r: u8, m1: i64, m2: i64) -> bool {
     r == 0 || 100 * m2 < i64::from(r) * m1
 }
 
-/// "A relay handed in is sound if ...". A run at its end with its latch off is
-/// sound: the document lists nothing between runs and latches. Either
-/// remembered bit is sound.
+/// "A relay handed in is sound if ...", with "runs up to its own lengths". A run
+/// at its length with its latch off is sound: the document lists nothing between
+/// runs and latches. Either remembered bit is sound.
 pub fn is_sound(relay: &Relay) -> bool {
     let channel_sound = |c: usize| {
         let channel = &relay.channels[c];
@@ -119,9 +132,9 @@ pub fn is_sound(relay: &Relay) -> bool {
         let over = if c < FIRST_CURRENT {
             channel.over_run == 0 && !channel.over_latch
         } else {
-            channel.over_run <= FULL_OVER_RUN
+            channel.over_run <= relay.settings.lengths.over
         };
-        samples && channel.loss_run <= FULL_LOSS_RUN && over
+        samples && channel.loss_run <= relay.settings.lengths.loss && over
     };
     settings_in_range(&relay.settings)
         && relay.age <= FULL_AGE
@@ -197,15 +210,17 @@ pub fn frame(relay: Relay, codes: [u16; 6], enable: u8) -> Framed {
     } else {
         // 3. Counts the runs.
         for c in 0..6 {
-            count_runs(&mut next.channels[c], &next.settings.levels, c, amplitudes[c], is_enabled(enable, c));
+            count_runs(&mut next.channels[c], &next.settings, c, amplitudes[c], is_enabled(enable, c));
         }
     }
 
     // 4. Turns latches on. This stands outside 2 and 3, so it is done in
-    // every accepted frame, counted or not.
+    // every accepted frame, counted or not. No length is 0, so a voltage's over
+    // run of 0 turns nothing on.
+    let lengths = next.settings.lengths;
     for channel in &mut next.channels {
-        channel.loss_latch |= channel.loss_run == FULL_LOSS_RUN;
-        channel.over_latch |= channel.over_run == FULL_OVER_RUN;
+        channel.loss_latch |= channel.loss_run == lengths.loss;
+        channel.over_latch |= channel.over_run == lengths.over;
     }
 
     // 5. Advances the slot and answers.
@@ -220,19 +235,20 @@ pub fn frame(relay: Relay, codes: [u16; 6], enable: u8) -> Framed {
     Framed { number, relay: next, amplitudes, output }
 }
 
-fn count_runs(channel: &mut Channel, levels: &Levels, c: usize, m: u16, enabled: bool) {
+fn count_runs(channel: &mut Channel, settings: &Settings, c: usize, m: u16, enabled: bool) {
+    let Settings { levels, lengths } = settings;
     if !enabled {
         channel.loss_run = 0;
         channel.over_run = 0;
         return;
     }
-    channel.loss_run = if m < levels.drop[c] { (channel.loss_run + 1).min(FULL_LOSS_RUN) } else { 0 };
+    channel.loss_run = if m < levels.drop[c] { (channel.loss_run + 1).min(lengths.loss) } else { 0 };
     if c >= FIRST_CURRENT {
         // The answer shows the fundamental only; the second harmonic is found here.
         let second = amplitude_of_order(&channel.samples, 2);
         let unrestrained = is_unrestrained(levels.restraint[c - FIRST_CURRENT], i64::from(m), second);
         let over = m >= levels.pickup[c - FIRST_CURRENT] && unrestrained;
-        channel.over_run = if over { (channel.over_run + 1).min(FULL_OVER_RUN) } else { 0 };
+        channel.over_run = if over { (channel.over_run + 1).min(lengths.over) } else { 0 };
     }
 }
 
@@ -254,7 +270,8 @@ pub fn reset(relay: Relay, mask: u8) -> Reset {
 
 /// A change of levels: "refused: 2 and then 1, relay as given", and 20 after 1.
 /// "Windows, slot, age, latches and the remembered bit 6 carry over. A run
-/// carries over where its own level is equal; otherwise it becomes 0."
+/// carries over where its own level is equal; otherwise it becomes 0." The run
+/// lengths are no levels and stay.
 pub fn change(relay: Relay, levels: Levels) -> Changed {
     let number = if is_sound(&relay) { levels_refusal(&levels) } else { refusal::NOT_SOUND };
     if number != refusal::ACCEPTED {

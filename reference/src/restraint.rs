@@ -1,6 +1,6 @@
 //! The expected outputs of two test programs on restraint levels.
 
-use crate::bench::played_text;
+use crate::bench::{played_text, LENGTHS};
 use crate::cases;
 use crate::relay::{frame, fresh, reset, Levels, Settings};
 
@@ -54,7 +54,7 @@ pub fn generated_with(change: impl Fn([u8; 3]) -> [u8; 3]) -> String {
         let pickup = std::array::from_fn(|_| 400 + generator.next() % 2500);
         let restraint = change(std::array::from_fn(|j| RESTRAINTS[(k + 5 * j) % 12]));
         text += &format!("setting {k}: {} {} {}\n", restraint[0], restraint[1], restraint[2]);
-        let made = fresh(Settings { levels: Levels { drop, pickup, restraint } });
+        let made = fresh(Settings { levels: Levels { drop, pickup, restraint }, lengths: LENGTHS });
         assert_eq!(made.number, 0);
         let mut relay = made.relay;
         let mut peaks = [(0, 0); 6];

@@ -7,8 +7,8 @@ use crate::capture::{read, strongest, write};
 use crate::history::Call;
 use crate::prng::Prng;
 use crate::relay::{
-    change, frame, fresh, reset, Channel, Levels, Relay, Settings, FIRST_CURRENT, FULL_AGE, HIGHEST_LEVEL,
-    HIGHEST_RESTRAINT,
+    change, frame, fresh, reset, Channel, Lengths, Levels, Relay, Settings, FIRST_CURRENT, FULL_AGE, HIGHEST_LENGTH,
+    HIGHEST_LEVEL, HIGHEST_RESTRAINT,
 };
 
 /// What cells and bytes hold before a call, to see that the rest is untouched.
@@ -34,8 +34,13 @@ impl Line {
         self.put_all(&levels.restraint);
     }
 
+    fn settings(&mut self, settings: &Settings) {
+        self.levels(&settings.levels);
+        self.put_all(&[settings.lengths.loss, settings.lengths.over]);
+    }
+
     fn relay(&mut self, relay: &Relay) {
-        self.levels(&relay.settings.levels);
+        self.settings(&relay.settings);
         self.put_all(&[relay.age, relay.slot, u8::from(relay.device_on)]);
         for channel in &relay.channels {
             self.put_all(&channel.samples);
@@ -90,6 +95,48 @@ fn spoil_restraint(prng: &mut Prng, levels: &mut Levels) {
     levels.restraint[prng.below(3) as usize] = [101, 255][prng.below(2) as usize];
 }
 
+/// A run length in range: any of them, some of them more often, and short ones,
+/// so that latches go on.
+fn length(prng: &mut Prng) -> u8 {
+    match prng.below(8) {
+        0 | 1 => [1, 4, 16, 24][prng.below(4) as usize],
+        2 => prng.within(1, 6) as u8,
+        _ => prng.within(1, HIGHEST_LENGTH.into()) as u8,
+    }
+}
+
+/// Either may be the greater.
+fn lengths(prng: &mut Prng) -> Lengths {
+    Lengths { loss: length(prng), over: length(prng) }
+}
+
+/// Settings that make a relay more often than not.
+fn settings(prng: &mut Prng) -> Settings {
+    let mut settings = Settings { levels: levels(prng), lengths: lengths(prng) };
+    if prng.once_in(10) {
+        let lengths = &mut settings.lengths;
+        let wrong = [0, 25, 255, prng.within(25, 255) as u8][prng.below(4) as usize];
+        *[&mut lengths.loss, &mut lengths.over][prng.below(2) as usize] = wrong;
+    }
+    settings
+}
+
+/// A run up to its length, often at it or one below.
+fn run(prng: &mut Prng, length: u8) -> u8 {
+    match prng.below(4) {
+        0 => length,
+        1 => length.saturating_sub(1),
+        _ => prng.within(0, length.into()) as u8,
+    }
+}
+
+/// A run above its length, often by one, or one that a greater length would allow.
+fn run_above(prng: &mut Prng, length: u8) -> u8 {
+    let least = length.saturating_add(1);
+    let most = [least, least.max(HIGHEST_LENGTH), 255][prng.below(3) as usize];
+    prng.within(least.into(), most.into()) as u8
+}
+
 /// Windows at restraint level 37: amplitudes 100 and 37, which is at equality and
 /// restrains, and 173 and 64, which is one less and does not.
 pub const AT_37: [Window; 2] = [[4, 18, -10, 12, -3, -14, 8, 1], [-7, -14, -1, 10, 9, 13, 3, 5]];
@@ -112,21 +159,23 @@ fn window(prng: &mut Prng, spread: i64) -> Window {
     })
 }
 
-/// A relay at random, sound more often than not, with either remembered bit.
+/// A relay at random, sound more often than not, with either remembered bit. Some
+/// have a length out of range and runs up to it, some a run above its length.
 pub fn relay(prng: &mut Prng) -> Relay {
     let spread = prng.within(1, 512);
     let mut relay = Relay {
-        settings: Settings { levels: levels(prng) },
+        settings: settings(prng),
         age: if prng.once_in(4) { prng.within(0, 72) as u8 } else { 72 },
         slot: prng.below(8) as u8,
         device_on: !prng.once_in(3),
         ..Relay::default()
     };
+    let lengths = relay.settings.lengths;
     for c in 0..6 {
         relay.channels[c] = Channel {
             samples: window(prng, spread),
-            loss_run: prng.below(17) as u8,
-            over_run: if c < FIRST_CURRENT { 0 } else { prng.below(5) as u8 },
+            loss_run: run(prng, lengths.loss),
+            over_run: if c < FIRST_CURRENT { 0 } else { run(prng, lengths.over) },
             loss_latch: prng.once_in(3),
             over_latch: c >= FIRST_CURRENT && prng.once_in(3),
         };
@@ -137,8 +186,8 @@ pub fn relay(prng: &mut Prng) -> Relay {
         let channel = &mut relay.channels[c];
         match prng.below(7) {
             0 => channel.samples[slot] = [-513, 512, i16::MIN, i16::MAX][prng.below(4) as usize],
-            1 => channel.loss_run = prng.within(17, 255) as u8,
-            2 => channel.over_run = prng.within(1, 255) as u8,
+            1 => channel.loss_run = run_above(prng, lengths.loss),
+            2 => channel.over_run = run_above(prng, if c < FIRST_CURRENT { 0 } else { lengths.over }),
             3 => channel.over_latch = true,
             4 => relay.age = prng.within(73, 255) as u8,
             5 => relay.slot = prng.within(8, 255) as u8,
@@ -185,10 +234,10 @@ pub fn text(lines: usize) -> String {
 }
 
 fn fresh_line(prng: &mut Prng) -> Line {
-    let levels = levels(prng);
-    let answer = fresh(Settings { levels });
+    let settings = settings(prng);
+    let answer = fresh(settings);
     let mut line = Line(vec![1]);
-    line.levels(&levels);
+    line.settings(&settings);
     line.put(answer.number);
     line.relay(&answer.relay);
     line
@@ -422,13 +471,14 @@ impl Switch {
     }
 }
 
-/// A list of calls on a fresh relay at random, and settings that make one. The
-/// amplitudes are often near the settings. In most lists the device goes off and
-/// comes back, and refused frames, mostly with bit 6 the other way, and resets
-/// come between, more often where it changes. About one call in twenty is a
-/// change of levels. It comes mostly where runs are above 0, and the levels stay
-/// near the amplitudes. `RunsAtChanges` counts what the changes did: lists of
-/// 300,000 calls in all have more than 11,000 of each of its four kinds.
+/// A list of calls on a fresh relay at random, and settings that make one, with
+/// lengths of the whole range. The amplitudes are often near the levels. In most
+/// lists the device goes off and comes back, and refused frames, mostly with bit 6
+/// the other way, and resets come between, more often where it changes. About one
+/// call in twenty is a change of levels. It comes mostly where runs are above 0,
+/// and the levels stay near the amplitudes. `RunsAtChanges` counts what the changes
+/// did: lists of 300,000 calls in all have more than 11,000 of each of its four
+/// kinds.
 pub fn list(prng: &mut Prng) -> (Settings, Vec<Call>) {
     let levels = Levels {
         drop: std::array::from_fn(|_| match prng.below(8) {
@@ -450,7 +500,7 @@ pub fn list(prng: &mut Prng) -> (Settings, Vec<Call>) {
             _ => prng.within(6, 60) as u8,
         }),
     };
-    let settings = Settings { levels };
+    let settings = Settings { levels, lengths: lengths(prng) };
     let enable_faults = prng.within(4, 60) as u64;
     let reset_share = prng.within(5, 80) as u64;
     let length = if prng.once_in(4) { prng.below(300) } else { prng.within(300, 900) as u64 } as usize;
@@ -517,15 +567,19 @@ pub fn play(relay: Relay, call: &Call) -> (Relay, u8) {
 }
 
 /// A change comes once in so many frames: seldom where there are no runs, often
-/// where there are over runs, of which there are fewer than loss runs.
+/// where there are over runs, of which there are fewer than loss runs. It comes
+/// less often where over runs are long, so that some get full.
 fn change_share(relay: &Relay) -> u64 {
     let over_runs = relay.channels.iter().filter(|channel| channel.over_run > 0).count();
-    match (relay.age < FULL_AGE, over_runs) {
-        (true, _) => 200,
-        (_, 0) => 50,
-        (_, 1) => 18,
-        (_, 2) => 6,
-        _ => 3,
+    let long = relay.settings.lengths.over > 6;
+    match (relay.age < FULL_AGE, over_runs, long) {
+        (true, _, _) => 200,
+        (_, 0, _) => 50,
+        (_, 1, _) => 18,
+        (_, 2, false) => 5,
+        (_, 2, true) => 8,
+        (_, _, false) => 2,
+        (_, _, true) => 5,
     }
 }
 

@@ -1,5 +1,7 @@
-//! Every bench figure of document 01, and the "mistakes to keep out".
+//! Every bench figure of document 01, and the "mistakes to keep out". "The bench
+//! figures keep 16 and 4."
 
+use reference::bench::LENGTHS;
 use reference::capture::{number_bytes, sent};
 use reference::relay::is_enabled;
 use reference::*;
@@ -40,8 +42,8 @@ fn starred_numbers() {
 
 /// The first frame, of 400, after which channel 3's over latch is on.
 fn first_over(pickup: u16) -> Option<usize> {
-    let settings = Settings { levels: Levels { drop: [1; 6], pickup: [pickup, 10_700, 10_700], restraint: [0; 3] } };
-    let mut relay = fresh(settings).relay;
+    let levels = Levels { drop: [1; 6], pickup: [pickup, 10_700, 10_700], restraint: [0; 3] };
+    let mut relay = fresh(Settings { levels, lengths: LENGTHS }).relay;
     (0..400).find(|n| {
         let mut codes = [512; 6];
         codes[3] = (512 + WAVE[n % 8]) as u16;
@@ -60,7 +62,8 @@ fn steady_wave_on_channel_3() {
 
 #[test]
 fn code_512_throughout() {
-    let mut relay = fresh(Settings { levels: Levels { drop: [1; 6], pickup: [10_700; 3], restraint: [0; 3] } }).relay;
+    let levels = Levels { drop: [1; 6], pickup: [10_700; 3], restraint: [0; 3] };
+    let mut relay = fresh(Settings { levels, lengths: LENGTHS }).relay;
     for n in 0..=100 {
         let answer = frame(relay, [512; 6], ALL_ON);
         relay = answer.relay;

@@ -1,5 +1,6 @@
 //! Paper 8: the estimate by order, its exact amplitude and the test of restraint.
 
+use reference::bench::LENGTHS;
 use reference::prng::Prng;
 use reference::relay::is_unrestrained;
 use reference::*;
@@ -121,8 +122,8 @@ fn the_test_is_strict() {
 
 /// The over latch of a relay fed with a window in its slots, over and over.
 fn trips(window: &Window, pickup: u16, restraint: u8) -> bool {
-    let settings = Settings { levels: Levels { drop: [1; 6], pickup: [pickup; 3], restraint: [restraint; 3] } };
-    let mut relay = fresh(settings).relay;
+    let levels = Levels { drop: [1; 6], pickup: [pickup; 3], restraint: [restraint; 3] };
+    let mut relay = fresh(Settings { levels, lengths: LENGTHS }).relay;
     for n in 0..100 {
         let answer = frame(relay, [(512 + window[n % 8]) as u16; 6], 0x7F);
         relay = answer.relay;
@@ -151,8 +152,8 @@ fn the_computed_pairs_in_a_relay() {
 /// Each current has its own level.
 #[test]
 fn each_current_has_its_own_level() {
-    let settings = Settings { levels: Levels { drop: [1; 6], pickup: [100; 3], restraint: [37, 38, 0] } };
-    let mut relay = fresh(settings).relay;
+    let levels = Levels { drop: [1; 6], pickup: [100; 3], restraint: [37, 38, 0] };
+    let mut relay = fresh(Settings { levels, lengths: LENGTHS }).relay;
     let mut output = 0;
     for n in 0..100 {
         let answer = frame(relay, [(512 + EQUAL[n % 8]) as u16; 6], 0x7F);
@@ -166,8 +167,8 @@ fn each_current_has_its_own_level() {
 /// below age 72 the over run stays.
 #[test]
 fn a_restrained_frame() {
-    let settings = Settings { levels: Levels { drop: [10_700; 6], pickup: [100; 3], restraint: [37; 3] } };
-    let mut relay = fresh(settings).relay;
+    let levels = Levels { drop: [10_700; 6], pickup: [100; 3], restraint: [37; 3] };
+    let mut relay = fresh(Settings { levels, lengths: LENGTHS }).relay;
     for channel in &mut relay.channels {
         channel.samples = EQUAL;
         channel.loss_run = 3;

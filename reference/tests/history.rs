@@ -2,6 +2,7 @@
 //! the latch history read from the list, and with the age, the remembered bit
 //! and the levels that the list gives it.
 
+use reference::bench::LENGTHS;
 use reference::prng::Prng;
 use reference::relay::{frame_refusal, is_device_on, is_enabled, is_unrestrained, reset_refusal};
 use reference::trace::RunsAtChanges;
@@ -13,6 +14,7 @@ struct Seen {
     frames: usize,
     refused: usize,
     latched: [usize; 2],
+    lengths: SeenOfLengths,
     cleared: usize,
     z_clause: [usize; 2],
     /// Over latches that went on with a restraint level above 0.
@@ -22,6 +24,18 @@ struct Seen {
     clearly_met_but_restrained: usize,
     switch: SeenOfSwitch,
     changes: SeenOfChanges,
+}
+
+/// What the lists met of run lengths, by length.
+#[derive(Debug, Default)]
+struct SeenOfLengths {
+    /// Latches that went on.
+    latched: [[usize; 25]; 2],
+    /// Frames after which a latch is off though the frames up to it would be a
+    /// full run that meets its level, were the length one less.
+    one_short: [[usize; 25]; 2],
+    /// Lists in which the one or the other is the greater.
+    greater: [usize; 2],
 }
 
 /// What the lists met of changed levels.
@@ -85,6 +99,12 @@ fn latches(relay: &Relay, latch: Latch) -> [bool; 6] {
 
 fn check(settings: Settings, calls: &[Call], seen: &mut Seen) {
     let history = History::of(settings, calls);
+    let Lengths { loss, over } = settings.lengths;
+    // The same calls, were each length one less.
+    let mut shorter = history.clone();
+    shorter.settings.lengths = Lengths { loss: (loss - 1).max(1), over: (over - 1).max(1) };
+    seen.lengths.greater[0] += usize::from(loss > over);
+    seen.lengths.greater[1] += usize::from(loss < over);
     let made = fresh(settings);
     assert_eq!(made.number, 0);
     let mut relay = made.relay;
@@ -109,6 +129,7 @@ fn check(settings: Settings, calls: &[Call], seen: &mut Seen) {
                     // It found age 72 and does not settle.
                     assert_eq!(history.frames[n].is_counted, before.age == 72 && relay.age == 72);
                     check_z_clauses(&history, calls, &before, &relay, n, seen);
+                    look_at_one_short(&history, &shorter, &relay, n, &mut seen.lengths);
                     n += 1;
                 }
             }
@@ -143,6 +164,7 @@ fn check(settings: Settings, calls: &[Call], seen: &mut Seen) {
         assert_eq!(relay.device_on, history.device_on(place + 1), "after call {place}");
         assert_eq!(usize::from(relay.age), history.age(place + 1), "after call {place}");
         assert_eq!(relay.settings.levels, history.levels(place + 1), "after call {place}");
+        assert_eq!(relay.settings.lengths, settings.lengths, "after call {place}");
     }
     assert_eq!(n, history.frames.len());
     assert_eq!(history.levels(0), settings.levels);
@@ -166,11 +188,12 @@ fn look_at_change(before: &Relay, after: &Relay, seen: &mut SeenOfChanges) {
         seen.same += 1;
     }
     seen.runs.add_change(before, after);
+    let lengths = before.settings.lengths;
     for (old, new) in before.channels.iter().zip(&after.channels) {
         assert!(new.loss_run == old.loss_run || new.loss_run == 0);
         assert!(new.over_run == old.over_run || new.over_run == 0);
-        seen.latch_outlived[0] += usize::from(old.loss_run == 16 && new.loss_run == 0 && new.loss_latch);
-        seen.latch_outlived[1] += usize::from(old.over_run == 4 && new.over_run == 0 && new.over_latch);
+        seen.latch_outlived[0] += usize::from(old.loss_run == lengths.loss && new.loss_run == 0 && new.loss_latch);
+        seen.latch_outlived[1] += usize::from(old.over_run == lengths.over && new.over_run == 0 && new.over_latch);
     }
 }
 
@@ -228,7 +251,7 @@ fn check_z_clauses(history: &History, calls: &[Call], before: &Relay, after: &Re
     for (index, latch) in [Latch::Loss, Latch::Over].into_iter().enumerate() {
         for c in if latch == Latch::Loss { 0..6 } else { 3..6 } {
             let (was_on, is_on) = (latches(before, latch)[c], latches(after, latch)[c]);
-            let first = (n + 1).checked_sub(latch.full_run());
+            let first = (n + 1).checked_sub(history.full_run(latch));
             let Some(first) = first.filter(|&first| history.is_full_run(latch, c, first)) else {
                 assert!(was_on || !is_on);
                 if let (Some(first), false) = (first, is_on) {
@@ -266,6 +289,7 @@ fn check_z_clauses(history: &History, calls: &[Call], before: &Relay, after: &Re
                 assert!(near(level));
                 assert!(unrestrained);
                 seen.latched[index] += 1;
+                seen.lengths.latched[index][run.len()] += 1;
                 if history.frames[..n].iter().any(|frame| frame.is_rise) {
                     seen.switch.latched_after_a_rise[index] += 1;
                 }
@@ -294,7 +318,7 @@ fn check_z_clauses(history: &History, calls: &[Call], before: &Relay, after: &Re
 /// Then each frame from `first` on is counted, enabled and meets the level that
 /// is in force in it, and no reset separates them.
 fn look_at_separated(history: &History, latch: Latch, c: usize, first: usize, seen: &mut SeenOfChanges) {
-    let run = &history.frames[first..first + latch.full_run()];
+    let run = &history.frames[first..first + history.full_run(latch)];
     let span = run[0].place..run[run.len() - 1].place;
     let reset = history.resets.iter().any(|reset| reset.mask >> c & 1 == 1 && span.contains(&reset.place));
     let counts = |frame: &history::AcceptedFrame| frame.is_counted && is_enabled(frame.enable, c);
@@ -314,6 +338,22 @@ fn look_at_separated(history: &History, latch: Latch, c: usize, first: usize, se
     seen.separated[index] += 1;
     let own = |frame: &history::AcceptedFrame| latch.own_level(&frame.levels, c);
     seen.changed_back[index] += usize::from(run.iter().all(|frame| own(frame) == own(&run[0])));
+}
+
+fn look_at_one_short(history: &History, shorter: &History, after: &Relay, n: usize, seen: &mut SeenOfLengths) {
+    for (index, latch) in [Latch::Loss, Latch::Over].into_iter().enumerate() {
+        let (length, short) = (history.full_run(latch), shorter.full_run(latch));
+        for c in if latch == Latch::Loss { 0..6 } else { 3..6 } {
+            if length == 1 || latches(after, latch)[c] || n < short {
+                continue;
+            }
+            let first = n + 1 - short;
+            let full = shorter.is_full_run(latch, c, first)
+                && shorter.meets_level(latch, c, first)
+                && shorter.is_unrestrained(latch, c, first);
+            seen.one_short[index][length] += usize::from(full);
+        }
+    }
 }
 
 #[test]
@@ -338,6 +378,11 @@ fn stepwise_latches_equal_the_history() {
     );
     assert!(seen.latched_under_restraint > 100 && seen.restrained > 500);
     assert!(seen.clearly_met_but_restrained > 500);
+    let lengths = seen.lengths;
+    println!("{lengths:?}");
+    assert!(lengths.greater.iter().all(|&count| count > 100));
+    assert!(lengths.latched.iter().all(|counts| counts[1..].iter().all(|&count| count > 5)));
+    assert!(lengths.one_short.iter().all(|counts| counts[2..].iter().all(|&count| count > 5)));
     let switch = seen.switch;
     println!("{switch:?}");
     assert!(switch.falls > 400 && switch.rises > 400);
@@ -386,7 +431,8 @@ fn the_cases_equal_the_history() {
 /// 72 and on the loss run restraint does nothing.
 #[test]
 fn a_restrained_frame_starts_the_over_run_again() {
-    let settings = Settings { levels: Levels { drop: [1; 6], pickup: [400; 3], restraint: [15; 3] } };
+    let levels = Levels { drop: [1; 6], pickup: [400; 3], restraint: [15; 3] };
+    let settings = Settings { levels, lengths: LENGTHS };
     let wave = [100, 71, 0, -71, -100, -71, 0, 71];
     let frame_of = |n: usize, kick: i16| Call::Frame { codes: [(512 + wave[n % 8] + kick) as u16; 6], enable: 0x7F };
     let mut seen = Seen::default();
@@ -411,7 +457,8 @@ fn a_restrained_frame_starts_the_over_run_again() {
 #[test]
 fn what_separates_a_run() {
     let quiet = Call::Frame { codes: [512; 6], enable: 0x7F };
-    let settings = Settings { levels: Levels { drop: [1; 6], pickup: [10_700; 3], restraint: [0; 3] } };
+    let levels = Levels { drop: [1; 6], pickup: [10_700; 3], restraint: [0; 3] };
+    let settings = Settings { levels, lengths: LENGTHS };
     let mut seen = Seen::default();
     let mut latched_at = |between: Call| {
         let mut calls = vec![quiet; 80];
@@ -444,7 +491,7 @@ fn what_change_separates_a_run() {
         Call::Frame { codes: [512, 512, 512, current, current, current], enable: 0x7F }
     };
     let base = levels::BASE;
-    let settings = Settings { levels: base };
+    let settings = Settings { levels: base, lengths: LENGTHS };
     let mut seen = Seen::default();
     // The changes come right before frame `before`; answered are the frames in
     // which the two latches go on.
@@ -498,11 +545,11 @@ fn what_change_separates_a_run() {
     }
     // A level that is met from the change on only: the wave of 1603 on channel 3 is below drop 1604
     // and not below 1603.
-    let low = Levels { drop: [1603; 6], ..base };
+    let low = Settings { levels: Levels { drop: [1603; 6], ..base }, lengths: LENGTHS };
     let mut calls: Vec<Call> = (0..120).map(frame_of).collect();
     calls.insert(90, Call::Change(Levels { drop: [1604; 6], ..base }));
-    let history = History::of(Settings { levels: low }, &calls);
-    check(Settings { levels: low }, &calls, &mut seen);
+    let history = History::of(low, &calls);
+    check(low, &calls, &mut seen);
     let on = history.frames.iter().position(|frame| history.is_on(Latch::Loss, 3, frame.place + 1));
     assert_eq!(on, Some(105), "frames 90 to 105");
 }
@@ -513,7 +560,7 @@ fn what_change_separates_a_run() {
 fn latches_outlive_a_change() {
     let wave = [100, 71, 0, -71, -100, -71, 0, 71];
     let frame_of = |n: usize| Call::Frame { codes: [(512 + wave[n % 8]) as u16; 6], enable: 0x7F };
-    let settings = Settings { levels: levels::BASE };
+    let settings = Settings { levels: levels::BASE, lengths: LENGTHS };
     let mut calls: Vec<Call> = (0..160).map(frame_of).collect();
     calls.insert(130, Call::Reset { mask: 0x10 });
     calls.insert(76, Call::Change(Levels { pickup: [1604; 3], ..levels::BASE }));

@@ -1,5 +1,6 @@
 //! Paper 6: new levels without a stop. What a change refuses, keeps and breaks.
 
+use reference::bench::LENGTHS;
 use reference::levels::BASE;
 use reference::prng::Prng;
 use reference::relay::FULL_AGE;
@@ -29,7 +30,7 @@ const LEVELS: Levels =
 /// A sound relay with something in every field, runs above 0 and both kinds of
 /// latch, on and off.
 fn busy() -> Relay {
-    let mut relay = fresh(Settings { levels: LEVELS }).relay;
+    let mut relay = fresh(Settings { levels: LEVELS, lengths: LENGTHS }).relay;
     (relay.age, relay.slot, relay.device_on) = (41, 5, false);
     for c in 0..6 {
         let channel = &mut relay.channels[c];
@@ -45,7 +46,7 @@ fn busy() -> Relay {
 
 /// What an accepted change leaves, written out: the runs named are 0.
 fn expected(relay: Relay, levels: Levels, loss: &[usize], over: &[usize]) -> Changed {
-    let mut relay = Relay { settings: Settings { levels }, ..relay };
+    let mut relay = Relay { settings: Settings { levels, ..relay.settings }, ..relay };
     for &c in loss {
         relay.channels[c].loss_run = 0;
     }
@@ -173,7 +174,7 @@ fn the_levels_in_force_change_nothing() {
 /// in with its latch off keeps it off until the next accepted frame.
 #[test]
 fn a_change_turns_no_latch_on() {
-    let mut relay = Relay { age: 10, ..fresh(Settings { levels: BASE }).relay };
+    let mut relay = Relay { age: 10, ..fresh(Settings { levels: BASE, lengths: LENGTHS }).relay };
     relay.channels[0].loss_run = 16;
     relay.channels[1].loss_run = 16;
     relay.channels[4].over_run = 4;
@@ -188,7 +189,7 @@ fn a_change_turns_no_latch_on() {
 #[test]
 fn the_next_frame_uses_the_new_levels() {
     let still = |relay| frame(relay, [512; 6], 0x7F).relay.channels.map(|c| c.loss_run);
-    let mut relay = Relay { age: FULL_AGE, ..fresh(Settings { levels: BASE }).relay };
+    let mut relay = Relay { age: FULL_AGE, ..fresh(Settings { levels: BASE, lengths: LENGTHS }).relay };
     assert_eq!(still(relay), [1; 6], "0 is below drop 1");
     // 100 in one slot and nothing else has amplitude 400 or 399, as in document 01's figures.
     relay.channels[0].samples[4] = 100;

@@ -1,4 +1,5 @@
-//! Each refusal, 1 to 13, 19 and 20, with its whole outcome.
+//! Each refusal, 1 to 13, 19 and 20, with its whole outcome. Refusal 21 is in
+//! tests/lengths.rs.
 
 use reference::*;
 
@@ -39,7 +40,7 @@ fn refusal_1_settings() {
 fn the_all_zero_relay_remembers_off() {
     assert!(fresh(GOOD).relay.device_on);
     for levels in [Levels { drop: [0; 6], ..GOOD.levels }, Levels { restraint: [101; 3], ..GOOD.levels }] {
-        let relay = fresh(Settings { levels }).relay;
+        let relay = fresh(Settings { levels, ..GOOD }).relay;
         assert_eq!(relay, Relay::default());
         assert!(!relay.device_on);
         for enable in [0x7F, 0x3F] {

@@ -1,5 +1,6 @@
 //! Paper 5: the remembered bit 6, and the start delay after the device is back.
 
+use reference::bench::LENGTHS;
 use reference::prng::Prng;
 use reference::relay::FULL_AGE;
 use reference::*;
@@ -8,7 +9,8 @@ const ON: u8 = 0x7F;
 const OFF: u8 = 0x3F;
 
 /// Every frame is below drop and none is over pickup: the loss runs count frames.
-const COUNTING: Settings = Settings { levels: Levels { drop: [10_700; 6], pickup: [10_700; 3], restraint: [0; 3] } };
+const COUNTING: Settings =
+    Settings { levels: Levels { drop: [10_700; 6], pickup: [10_700; 3], restraint: [0; 3] }, lengths: LENGTHS };
 
 fn next(relay: Relay, enable: u8) -> Relay {
     let answer = frame(relay, [512; 6], enable);

@@ -3,6 +3,7 @@
 use frames::bits::bit;
 use libc::STDOUT_FILENO;
 use relay::FrameAnswer;
+use relay::Lengths;
 use relay::Levels;
 use relay::Relay;
 use relay::Settings;
@@ -18,6 +19,9 @@ const ALL_ENABLED: u8 = 127;
 
 // The highest level.
 const MOST_LEVEL: u16 = 10700;
+
+// The frames of full runs: "the bench program and the bench figures keep 16 and 4" (document 02, Paper 9).
+const BENCH_LENGTHS: Lengths = Lengths { loss: 16, over: 4 };
 
 // How many frames are run where no latch is expected: those of the longest capture.
 const FRAMES: u64 = frames::MOST_FRAMES as u64;
@@ -64,7 +68,10 @@ fn made(drop: u16, pickup: u16) -> Relay {
         pickup: [pickup; 3],
         restraint: [0; 3],
     };
-    let answer = Relay::fresh(Settings { levels: levels });
+    let answer = Relay::fresh(Settings {
+        levels: levels,
+        lengths: BENCH_LENGTHS,
+    });
     answer.relay
 }
 

@@ -3,6 +3,7 @@
 // than before, and the sum of all that was answered. The stored output was made by a second implementation.
 ghost use Prim.Native.Nat.{_<_, _^_};
 use libc::STDOUT_FILENO;
+use relay::Lengths;
 use relay::Levels;
 use relay::Relay;
 use relay::Settings;
@@ -24,6 +25,9 @@ const RESTRAINTS: [u8; 12] = [0, 1, 100, 15, 37, 50, 7, 99, 20, 33, 64, 2];
 const SETTINGS: u8 = 12;
 
 const FRAMES: u16 = 200;
+
+// The frames of full runs: those of the bench program.
+const BENCH_LENGTHS: Lengths = Lengths { loss: 16, over: 4 };
 
 // A 32-bit number as a larger one.
 fn wide(x: u32) -> u64
@@ -259,7 +263,13 @@ fn play_setting(k: u8, seed: u32) -> u32 {
         pickup: [pickup(two), pickup(three), pickup(four)],
         restraint: restraint,
     };
-    play_frames(Settings { levels: levels }, four)
+    play_frames(
+        Settings {
+            levels: levels,
+            lengths: BENCH_LENGTHS,
+        },
+        four,
+    )
 }
 
 // Each setting goes on where the generator stands.

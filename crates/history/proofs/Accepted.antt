@@ -19,8 +19,9 @@ use Rattle.relay.specs.Settings.{levelInRange, levelsInRange, nineSound, settin
 use Rattle.relay.specs.Sound.{soundOf}
 use Rattle.relay.specs.Relay.{acceptedFrame, refusedFrame, inputRefusal, frameOf, acceptedReset, refusedReset, maskRefusal, resetOf}
 use Rattle.relay.specs.Relay.{levelRefusal, acceptedChange, refusedChange, changeOf}
-use Rattle.relay.proofs.Sound.{input-codes}
+use Rattle.relay.proofs.Sound.{input-codes, passed}
 use Rattle.relay.proofs.Laws as laws
+use Rattle.relay.proofs.RunLengths.{say-lengths}
 use Rattle.relay.proofs.Changes as changes
 use Rattle.history.specs.Calls.{frameRefusedBy, resetRefusedBy, changeRefusedBy}
 use Rattle.history.specs.Demand.{AcceptedSettings}
@@ -103,33 +104,49 @@ say-restraints restraint s = every-true 3 (restraintInRange restraint) (λ k h. 
 pub settings-sound : (settings : Settings) → AcceptedSettings settings → settingsSound settings ≡ true
 unfolding dropsSound pickupsSound
 settings-sound settings ok =
-    and-true _ _ (and-true _ _ (says-range 6 (settings .levels .drop) (ok .drops)) (says-range 3 (settings .levels .pickup) (ok .pickups)))
-    (say-restraints (settings .levels .restraint) (ok .restraints))
+    and-true _ _ (and-true _ _ (and-true _ _ (says-range 6 (settings .levels .drop) (ok .drops)) (says-range 3 (settings .levels .pickup) (ok .pickups)))
+    (say-restraints (settings .levels .restraint) (ok .restraints)))
+    (say-lengths (settings .lengths) (ok .lossLength) (ok .overLength))
 
 pub settings-accepted : (settings : Settings) → settingsSound settings ≡ true → AcceptedSettings settings
 unfolding dropsSound pickupsSound
 settings-accepted settings e =
     let l : Levels = settings .levels in
-    let nine : nineSound l ≡ true = and-left (nineSound l) _ e in
+    let say : laws.SettingsSay settings = laws.settings-say settings e in
     record {
-      drops = range-says 6 (l .drop) (and-left (dropsSound (l .drop)) _ nine);
-      pickups = range-says 3 (l .pickup) (and-right (dropsSound (l .drop)) _ nine);
-      restraints = restraints-say (l .restraint) (and-right (nineSound l) _ e);
+      drops = range-says 6 (l .drop) (and-left (dropsSound (l .drop)) _ (say .nine));
+      pickups = range-says 3 (l .pickup) (and-right (dropsSound (l .drop)) _ (say .nine));
+      restraints = restraints-say (l .restraint) (say .restraints);
+      lossLength = laws.lengths-say (settings .lengths) (say .lengths) .0;
+      overLength = laws.lengths-say (settings .lengths) (say .lengths) .1;
     }
 
--- the levels that a change is accepted with are those that a relay is made with
-levels-settings : (settings : Settings) → changeRefusedBy (settings .levels) ≡ 0 → AcceptedSettings settings
-unfolding levelRefusal
-levels-settings settings e =
-    settings-accepted settings
-    (laws.two-checks (nineSound (settings .levels)) (restraintsSound (settings .levels .restraint)) (change-refusal (settings .levels) ∙ e))
+-- the levels that a change is accepted with are those that a relay is made with, beside lengths of 1 to 24
+abbrev LengthsIn : Settings → Type 0
+LengthsIn settings =
+    ((1 ≤ settings .lengths .loss) × (settings .lengths .loss ≤ 24)) × ((1 ≤ settings .lengths .over) × (settings .lengths .over ≤ 24))
+
+levels-settings : (settings : Settings) → changeRefusedBy (settings .levels) ≡ 0 → LengthsIn settings → AcceptedSettings settings
+unfolding levelRefusal dropsSound pickupsSound
+levels-settings settings e lengths =
+    let l : Levels = settings .levels in
+    let nine = passed (nineSound l) 0 (change-refusal l ∙ e) in
+    record {
+      drops = range-says 6 (l .drop) (and-left (dropsSound (l .drop)) _ (nine .0));
+      pickups = range-says 3 (l .pickup) (and-right (dropsSound (l .drop)) _ (nine .0));
+      restraints = restraints-say (l .restraint) (passed (restraintsSound (l .restraint)) 19 (nine .1) .0);
+      lossLength = lengths .0;
+      overLength = lengths .1;
+    }
 
 settings-levels : (settings : Settings) → AcceptedSettings settings → changeRefusedBy (settings .levels) ≡ 0
 unfolding levelRefusal
 settings-levels settings ok =
-    let l : Levels = settings .levels in
-    let sound : settingsSound settings ≡ true = settings-sound settings ok in
-    sym (change-refusal l) ∙ rw (and-left (nineSound l) (restraintsSound (l .restraint)) sound, and-right (nineSound l) (restraintsSound (l .restraint)) sound)
+    let say : laws.SettingsSay settings = laws.settings-say settings (settings-sound settings ok) in
+    sym (change-refusal (settings .levels)) ∙ rw (say .nine, say .restraints)
 
-pub same-levels : (settings : Settings) → AcceptedSettings settings ↔ (changeRefusedBy (settings .levels) ≡ 0)
-same-levels settings = (settings-levels settings, levels-settings settings)
+pub same-levels : (settings : Settings) → AcceptedSettings settings ↔ ((changeRefusedBy (settings .levels) ≡ 0) × LengthsIn settings)
+same-levels settings = (
+  λ ok. (settings-levels settings ok, (ok .lossLength, ok .overLength)),
+  λ e. levels-settings settings (e .0) (e .1),
+)

@@ -20,14 +20,14 @@ use Rattle.relay.specs.declared.Settings.{Settings}
 use Rattle.relay.specs.declared.Relay.{Relay}
 use Rattle.relay.specs.Relay.{changeOf}
 use Rattle.relay.proofs.ChangeCalls.{levels, withDrop, withPickup, withRestraint}
-use Rattle.relay.proofs.Examples.{equalLevels}
+use Rattle.relay.proofs.Examples.{bench, settingsOf, equalLevels}
 use Rattle.history.specs.Calls.{Call, frame, reset, change, changeRefusedBy, refusalOf, isAccepted, acceptedFrames}
 use Rattle.history.specs.Calls.{deviceBits, inForce, theRelay, handedBack, after}
 use Rattle.history.specs.History.{Event, sampled, cleared, changed, ownLevels, channelHistory, frames, resets, resetsBefore}
 use Rattle.history.specs.History.{levelsAt, changesBefore, windowAt, InEach, FullRun, FullRunMeeting, LatchOn}
 use Rattle.history.specs.Demand.{lossOf, overOf, PossiblyOver, OverMargins, relayAfter, lossAfter, overAfter}
-use Rattle.history.specs.WrongRelays.{noChange, runOfWindows, Latch, lossLatch, overLatch, latchIn, runOf, kindOf, Differ}
-use Rattle.history.specs.WrongRelays.{GoesOn, numberOf, callsOf, ChangedLately, Unmet, Changing, given, changedTo, ClearsRun}
+use Rattle.history.specs.WrongRelays.{noChange, runOfWindows, Latch, lossLatch, overLatch, latchIn, lengthOf, kindOf, Differ}
+use Rattle.history.specs.WrongRelays.{GoesOn, numberOf, callsOf, fullLength, ChangedLately, Unmet, Changing, given, changedTo, ClearsRun}
 use Rattle.history.proofs.Computed.{computed}
 use Rattle.history.proofs.FullRuns.{meetsIn, in-each, full-run, full-meeting}
 use Rattle.history.proofs.HistoryCalls.{own, ones, still}
@@ -284,10 +284,10 @@ pub record ChangeCalls : Type 0 where
       ≡ own 410 398 0 true ∷ own 405 398 0 true ∷ own 405 398 0 true ∷ own 405 398 9 true ∷ own 405 398 0 true ∷ []
   pub unmoved : table 5 (levelsAt (ownLevels nine 3) (channelHistory 3 tale)) ≡ replicate 5 (own 404 399 100 true)
   -- "gave its own level another value": the drop; the pickup, and "r too, as part of the over run's own level"
-  pub loss-changes : table 5 (changesBefore lossOf (ownLevels nine 4) (channelHistory 4 tale)) ≡ 1 ∷ 2 ∷ 2 ∷ 2 ∷ 2 ∷ []
-  pub over-changes : table 5 (changesBefore overOf (ownLevels nine 4) (channelHistory 4 tale)) ≡ 0 ∷ 2 ∷ 2 ∷ 3 ∷ 4 ∷ []
-  pub no-changes : (table 5 (changesBefore lossOf (ownLevels nine 3) (channelHistory 3 tale)) ≡ replicate 5 0)
-      × (table 5 (changesBefore overOf (ownLevels nine 3) (channelHistory 3 tale)) ≡ replicate 5 0)
+  pub loss-changes : table 5 (changesBefore (lossOf bench) (ownLevels nine 4) (channelHistory 4 tale)) ≡ 1 ∷ 2 ∷ 2 ∷ 2 ∷ 2 ∷ []
+  pub over-changes : table 5 (changesBefore (overOf bench) (ownLevels nine 4) (channelHistory 4 tale)) ≡ 0 ∷ 2 ∷ 2 ∷ 3 ∷ 4 ∷ []
+  pub no-changes : (table 5 (changesBefore (lossOf bench) (ownLevels nine 3) (channelHistory 3 tale)) ≡ replicate 5 0)
+      × (table 5 (changesBefore (overOf bench) (ownLevels nine 3) (channelHistory 3 tale)) ≡ replicate 5 0)
   -- a change is no reset, and a frame's number goes on over it
   pub separated : (resets (channelHistory 4 tale) ≡ 1) × (table 5 (resetsBefore (channelHistory 4 tale)) ≡ 0 ∷ 0 ∷ 0 ∷ 1 ∷ 1 ∷ [])
   pub not-separated : (resets (channelHistory 3 tale) ≡ 0) × (table 5 (resetsBefore (channelHistory 3 tale)) ≡ replicate 5 0)
@@ -296,32 +296,32 @@ pub record ChangeCalls : Type 0 where
   pub in-force : table 13 (λ n. inForce nine (firstOf n tale))
       ≡ nine ∷ raised ∷ raised ∷ picked ∷ nine ∷ nine ∷ nine ∷ nine ∷ nine ∷ nine ∷ held ∷ held ∷ nine ∷ []
   -- which our relay holds
-  pub ours-holds : table 13 (λ n. relayAfter theRelay (record { levels = nine }) (firstOf n tale) .settings .levels)
+  pub ours-holds : table 13 (λ n. relayAfter theRelay (settingsOf nine) (firstOf n tale) .settings .levels)
       ≡ nine ∷ raised ∷ raised ∷ picked ∷ nine ∷ nine ∷ nine ∷ nine ∷ nine ∷ nine ∷ held ∷ held ∷ nine ∷ []
   -- a run's own level: no place moved; the drop, the pickup, the restraint
-  pub loss-own : (lossOf .same (own 2 3 4 true) (own 2 3 4 true) ≡ true) × (lossOf .same (own 2 3 4 true) (own 1 3 4 true) ≡ false)
-      × (lossOf .same (own 2 3 4 true) (own 2 1 4 true) ≡ true) × (lossOf .same (own 2 3 4 true) (own 2 3 1 true) ≡ true)
-  pub over-own : (overOf .same (own 2 3 4 true) (own 2 3 4 true) ≡ true) × (overOf .same (own 2 3 4 true) (own 1 3 4 true) ≡ true)
-      × (overOf .same (own 2 3 4 true) (own 2 1 4 true) ≡ false) × (overOf .same (own 2 3 4 true) (own 2 3 1 true) ≡ false)
+  pub loss-own : (lossOf bench .same (own 2 3 4 true) (own 2 3 4 true) ≡ true) × (lossOf bench .same (own 2 3 4 true) (own 1 3 4 true) ≡ false)
+      × (lossOf bench .same (own 2 3 4 true) (own 2 1 4 true) ≡ true) × (lossOf bench .same (own 2 3 4 true) (own 2 3 1 true) ≡ true)
+  pub over-own : (overOf bench .same (own 2 3 4 true) (own 2 3 4 true) ≡ true) × (overOf bench .same (own 2 3 4 true) (own 1 3 4 true) ≡ true)
+      × (overOf bench .same (own 2 3 4 true) (own 2 1 4 true) ≡ false) × (overOf bench .same (own 2 3 4 true) (own 2 3 1 true) ≡ false)
   -- "m < drop", of the fundamental
-  pub below : table 2 (λ k. lossOf .meets (own (1603 + k) 1 0 true) waveWindow) ≡ false ∷ true ∷ []
+  pub below : table 2 (λ k. lossOf bench .meets (own (1603 + k) 1 0 true) waveWindow) ≡ false ∷ true ∷ []
   -- one window, judged by the levels of each frame: from 400 to 401, m = 400 comes below the drop and is no more over the pickup
   pub one-window : windowAt judged 0 ≡ windowAt judged 1
-  pub each-frame : (table 2 (meetsIn lossOf (own 400 400 0 true) judged) ≡ false ∷ true ∷ [])
-      × (table 2 (meetsIn overOf (own 400 400 0 true) judged) ≡ true ∷ false ∷ [])
+  pub each-frame : (table 2 (meetsIn (lossOf bench) (own 400 400 0 true) judged) ≡ false ∷ true ∷ [])
+      × (table 2 (meetsIn (overOf bench) (own 400 400 0 true) judged) ≡ true ∷ false ∷ [])
   -- "between the first and last frame": a change right before the first, frame 72, is not; right before the second it is; after the last it is not
-  pub before-first : FullRun lossOf made0 (still0 (stills 72 (two ∷ stills 16 []))) 16 72
-  pub before-second : ¬ FullRun lossOf made0 (still0 (stills 73 (two ∷ stills 16 []))) 16 72
-      × FullRun lossOf made0 (still0 (stills 73 (two ∷ stills 16 []))) 16 73
-  pub before-last : ¬ FullRun lossOf made0 (still0 (stills 87 (two ∷ stills 1 []))) 16 72
-  pub after-last : FullRun lossOf made0 (still0 (stills 88 (two ∷ []))) 16 72
+  pub before-first : FullRun (lossOf bench) made0 (still0 (stills 72 (two ∷ stills 16 []))) 16 72
+  pub before-second : ¬ FullRun (lossOf bench) made0 (still0 (stills 73 (two ∷ stills 16 []))) 16 72
+      × FullRun (lossOf bench) made0 (still0 (stills 73 (two ∷ stills 16 []))) 16 73
+  pub before-last : ¬ FullRun (lossOf bench) made0 (still0 (stills 87 (two ∷ stills 1 []))) 16 72
+  pub after-last : FullRun (lossOf bench) made0 (still0 (stills 88 (two ∷ []))) 16 72
   -- changed and changed back is two changes; a pickup's is none to the loss run, and is one to the over run
-  pub back-again : ¬ FullRun lossOf made0 (still0 (stills 80 (two ∷ one ∷ stills 8 []))) 16 72
-  pub only-pickup : FullRun lossOf (own 1 1 0 true) (channelHistory 3 (stills 80 (pickedUp ∷ stills 8 []))) 16 72
-      × ¬ FullRun overOf (own 1 1 0 true) (channelHistory 3 (stills 80 (pickedUp ∷ stills 8 []))) 16 72
+  pub back-again : ¬ FullRun (lossOf bench) made0 (still0 (stills 80 (two ∷ one ∷ stills 8 []))) 16 72
+  pub only-pickup : FullRun (lossOf bench) (own 1 1 0 true) (channelHistory 3 (stills 80 (pickedUp ∷ stills 8 []))) 16 72
+      × ¬ FullRun (overOf bench) (own 1 1 0 true) (channelHistory 3 (stills 80 (pickedUp ∷ stills 8 []))) 16 72
   -- "the level it meets .. is the one it ran under": not the one made with, and not the one in force at the end, which is 1 above m
-  pub meets-lent : LatchOn overOf (made3 1604) (lent 1603 1604)
-  pub not-lent : FullRun overOf (made3 1603) (lent 1604 1603) 4 72 × ¬ FullRunMeeting overOf (made3 1603) (lent 1604 1603) 72
+  pub meets-lent : LatchOn (overOf bench) (made3 1604) (lent 1603 1604)
+  pub not-lent : FullRun (overOf bench) (made3 1603) (lent 1604 1603) 4 72 × ¬ FullRunMeeting (overOf bench) (made3 1603) (lent 1604 1603) 72
   -- "from which the margin of 2 is measured too": after Z = 400 in each frame under 398 the latch is on; it does not go on under 403
   pub clear-margin : (was now : Bool) → OverMargins (equalLevels 1 10700) 3 (struckTo [] 398) was now → T now
   pub near-margin : ¬ OverMargins (equalLevels 1 398) 3 falling false true
@@ -359,7 +359,7 @@ pub record ChangeCalls : Type 0 where
       × ((test : List ℤ → Bool) (l : ChannelLevels) (w : List ℤ) → runOfWindows 7 test .meets l w ≡ test w)
       × ((old new : ChannelLevels) → runOfWindows 7 (λ w. false) .same old new ≡ true)
   -- each latch with its own run, length and own level
-  pub kinds : (kindOf lossLatch ≡ lossOf) × (kindOf overLatch ≡ overOf) × (runOf lossLatch ≡ 16) × (runOf overLatch ≡ 4)
+  pub kinds : (kindOf lossLatch ≡ lossOf) × (kindOf overLatch ≡ overOf) × (lengthOf lossLatch bench ≡ 16) × (lengthOf overLatch bench ≡ 4)
   pub latches : latchesOf (after theRelay inWave (waves 72 4 [])) ≡ false ∷ true ∷ false ∷ []
   pub loss-differs : Differ lossLatch (own 2 3 4 true) (own 1 3 4 true) × ¬ Differ lossLatch (own 2 3 4 true) (own 2 1 5 false)
   pub over-differs : Differ overLatch (own 2 3 4 true) (own 2 1 4 true) × Differ overLatch (own 2 3 4 true) (own 2 3 1 true)
@@ -369,16 +369,16 @@ pub record ChangeCalls : Type 0 where
       × (changedTo g ≡ changeOf (given g) (g .new) .relay)
   -- a change between two frames of the run: not right before its first
   pub between-two : (latch : Latch) (w : ClearsRun theRelay latch)
-      → (w .first < acceptedFrames (w .before)) × (acceptedFrames (w .before) < w .first + runOf latch)
-  -- three frames since the change, that in which the over latch goes on among them, are too few
-  pub three-too-few : (g : GoesOn theRelay) → g .latch ≡ overLatch → (before : List Call) (new : Levels) (between : List Call)
+      → (w .first < acceptedFrames (w .before)) × (acceptedFrames (w .before) < w .first + lengthOf latch (w .settings .lengths))
+  -- one frame fewer since the change, that in which the latch goes on among them, than its full run has is too few
+  pub one-too-few : (g : GoesOn theRelay) (before : List Call) (new : Levels) (between : List Call)
       → g .past ≡ before ++ (change new ∷ between) → refusalOf (change new) ≡ 0
       → Differ (g .latch) (ownLevels (inForce (g .settings .levels) before) (g .channel)) (ownLevels new (g .channel))
-      → acceptedFrames between ≡ 2 → ChangedLately g
+      → acceptedFrames between + 2 ≡ fullLength g → ChangedLately g
   -- the frame in which the latch goes on can be the one that did not meet its level
   pub unmet-there : (g : GoesOn theRelay) → g .latch ≡ overLatch
       → (let es : List Event = channelHistory (g .channel) (callsOf g) in
-      ¬ T (meetsIn (kindOf (g .latch)) (ownLevels (g .settings .levels) (g .channel)) es (numberOf g)) → Unmet g (numberOf g))
+      ¬ T (meetsIn (kindOf (g .latch) (g .settings .lengths)) (ownLevels (g .settings .levels) (g .channel)) es (numberOf g)) → Unmet g (numberOf g))
 
 pub change-calls : ChangeCalls
 unfolding computed
@@ -415,24 +415,24 @@ change-calls =
       below = refl;
       one-window = refl;
       each-frame = (refl, refl);
-      before-first = full-run lossOf made0 (still0 (stills 72 (two ∷ stills 16 []))) 16 72 refl;
+      before-first = full-run (lossOf bench) made0 (still0 (stills 72 (two ∷ stills 16 []))) 16 72 refl;
       before-second = (
         λ r. unlike 1 0 refl (r .each 73 (omega arith) (omega arith) .notChanged),
-        full-run lossOf made0 (still0 (stills 73 (two ∷ stills 16 []))) 16 73 refl,
+        full-run (lossOf bench) made0 (still0 (stills 73 (two ∷ stills 16 []))) 16 73 refl,
       );
       before-last = λ r. unlike 1 0 refl (r .each 87 (omega arith) (omega arith) .notChanged);
-      after-last = full-run lossOf made0 (still0 (stills 88 (two ∷ []))) 16 72 refl;
+      after-last = full-run (lossOf bench) made0 (still0 (stills 88 (two ∷ []))) 16 72 refl;
       back-again = λ r. unlike 2 0 refl (r .each 80 (omega arith) (omega arith) .notChanged);
       only-pickup = (
-        full-run lossOf (own 1 1 0 true) (channelHistory 3 (stills 80 (pickedUp ∷ stills 8 []))) 16 72 refl,
+        full-run (lossOf bench) (own 1 1 0 true) (channelHistory 3 (stills 80 (pickedUp ∷ stills 8 []))) 16 72 refl,
         λ r. unlike 1 0 refl (r .each 80 (omega arith) (omega arith) .notChanged),
       );
-      meets-lent = (72, full-meeting overOf (made3 1604) (lent 1603 1604) 72 refl refl refl);
+      meets-lent = (72, full-meeting (overOf bench) (made3 1604) (lent 1603 1604) 72 refl refl refl);
       not-lent = (
-        full-run overOf (made3 1603) (lent 1604 1603) 4 72 refl,
+        full-run (overOf bench) (made3 1603) (lent 1604 1603) 4 72 refl,
         λ m. m .meets 75 (omega arith) (omega arith),
       );
-      clear-margin = λ was now m. m .clearMargin 72 refl (full-run overOf (made3 10700) (channelHistory 3 (struckTo [] 398)) 4 72 refl)
+      clear-margin = λ was now m. m .clearMargin 72 refl (full-run (overOf bench) (made3 10700) (channelHistory 3 (struckTo [] 398)) 4 72 refl)
           (four _ 72 (exact .least-400, tt) (exact .least-400, tt) (exact .least-400, tt) (exact .least-400, tt));
       near-margin = λ m. near (m .nearMargin (λ t. t) tt);
       at-rest = λ calls c. refl;
@@ -465,16 +465,16 @@ change-calls =
       );
       changing = λ g. (refl, refl);
       between-two = λ latch w. (w .begun, w .notEnded);
-      three-too-few = λ g e before new between p a d n. record {
+      one-too-few = λ g before new between p a d n. record {
         before = before;
         new = new;
         between = between;
         isPast = p;
         accepted = a;
         another = d;
-        few = rw (e, n) (omega arith);
+        few = omega (arith, n);
       };
-      unmet-there = λ g e no-level. record { upTo = omega arith; inRun = rw e (omega arith); fails = no-level };
+      unmet-there = λ g e no-level. record { upTo = omega arith; inRun = rw e (omega (arith, g .accepted .overLength)); fails = no-level };
     }
   where
     es : List Event
@@ -484,6 +484,6 @@ change-calls =
     all = refl
 
     -- the run that ends in frame 75 begins in frame 72
-    near : ¬ ((j : ℕ) × (j + 4 ≡ frames es) × FullRun overOf (made3 398) es 4 j
+    near : ¬ ((j : ℕ) × (j + 4 ≡ frames es) × FullRun (overOf bench) (made3 398) es 4 j
         × InEach j 4 (λ n. PossiblyOver (levelsAt (made3 398) es n .pickup) (levelsAt (made3 398) es n .restraint) (windowAt es n)))
     near (j, e, r, p) = exact .below-401 (p 75 (omega (arith, e, all)) (omega (arith, e, all)) .0)

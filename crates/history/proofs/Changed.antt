@@ -10,6 +10,7 @@ use mathlib.Core.List.{List, [], _∷_, _++_, append-assoc}
 use lib.Dec.{T, eqb}
 use borrow.Author.Tests.{eqb-true, ne-eqb}
 use Rattle.relay.specs.declared.ChannelLevels.{ChannelLevels}
+use Rattle.relay.specs.declared.Lengths.{Lengths}
 use Rattle.relay.specs.declared.Levels.{Levels}
 use Rattle.relay.specs.declared.Settings.{Settings}
 use Rattle.relay.specs.declared.Relay.{Relay}
@@ -20,33 +21,33 @@ use Rattle.history.specs.Calls.{Call, frame, reset, change, changeRefuse
 use Rattle.history.specs.History.{Event, sampled, changed, inputOf, ownLevels, channelHistory, frames, levelsAt, changesBefore, windowAt}
 use Rattle.history.specs.History.{InEach, FullRunMeeting, LatchOn}
 use Rattle.history.specs.Demand.{madeWith, relayAfter, AcceptedSettings, Demanded}
-use Rattle.history.specs.WrongRelays.{Latch, lossLatch, overLatch, latchIn, latchAfter, runOf, kindOf, Differ, GoesOn, numberOf, callsOf}
+use Rattle.history.specs.WrongRelays.{Latch, lossLatch, overLatch, latchIn, latchAfter, lengthOf, kindOf, Differ, GoesOn, numberOf, callsOf, fullLength, kindIn, madeIn, events}
 use Rattle.history.specs.WrongRelays.{ChangedLately, Unmet, Changing, given, changedTo, ClearsRun}
 use Rattle.history.proofs.Channel.{went-on}
 use Rattle.history.proofs.History.{_▷_, frames-append, changes-append, changes-end, changes-le}
 use Rattle.history.proofs.Laws.{relay-says}
 use Rattle.history.proofs.Relay.{history-append, history-frame, frames-same, frames-frame, force-end, own-in-force, after-end}
 use Rattle.history.proofs.Unique.{SameButRuns, same-relay}
-use Rattle.history.proofs.WentOn.{historyOf, madeOf, frames-are, run-ends, some}
+use Rattle.history.proofs.WentOn.{frames-are, run-ends, some}
 
 -- levels that differ in a run's own level are not the same to it
-differ-same : (latch : Latch) (old new : ChannelLevels) → Differ latch old new → kindOf latch .same old new ≡ false
-differ-same lossLatch old new d = ne-eqb (old .drop) (new .drop) d
-differ-same overLatch old new d = by (eqb (old .pickup) (new .pickup)) (eqb (old .restraint) (new .restraint)) refl refl
+differ-same : (latch : Latch) (lengths : Lengths) (old new : ChannelLevels) → Differ latch old new → kindOf latch lengths .same old new ≡ false
+differ-same lossLatch lengths old new d = ne-eqb (old .drop) (new .drop) d
+differ-same overLatch lengths old new d = by (eqb (old .pickup) (new .pickup)) (eqb (old .restraint) (new .restraint)) refl refl
   where
     by : (a b : Bool) → eqb (old .pickup) (new .pickup) ≡ a → eqb (old .restraint) (new .restraint) ≡ b → a && b ≡ false
     by true true p q = absurd (d (eqb-true (old .pickup) (new .pickup) p, eqb-true (old .restraint) (new .restraint) q))
     by true false p q = refl
     by false b p q = refl
 
-run-len : (latch : Latch) → kindOf latch .len ≡ runOf latch
-run-len lossLatch = refl
-run-len overLatch = refl
+run-len : (latch : Latch) (lengths : Lengths) → kindOf latch lengths .len ≡ lengthOf latch lengths
+run-len lossLatch lengths = refl
+run-len overLatch lengths = refl
 
 module _ (d : Implementation) (meets : Demanded d) where
   -- the rule for either latch
-  on-rule : (settings : Settings) → AcceptedSettings settings → (calls : List Call) (latch : Latch) (c : ℕ) → c < 6
-      → T (latchAfter d latch settings calls c) ↔ LatchOn (kindOf latch) (madeWith settings c) (channelHistory c calls)
+  pub on-rule : (settings : Settings) → AcceptedSettings settings → (calls : List Call) (latch : Latch) (c : ℕ) → c < 6
+      → T (latchAfter d latch settings calls c) ↔ LatchOn (kindOf latch (settings .lengths)) (madeWith settings c) (channelHistory c calls)
   on-rule settings ok calls lossLatch c h = relay-says d meets settings ok calls .lossLatch c h
   on-rule settings ok calls overLatch c h = relay-says d meets settings ok calls .overLatch c h
 
@@ -90,7 +91,7 @@ module _ (d : Implementation) (meets : Demanded d) where
   forgets-change settings ok past mask =
       ap (λ (r : Relay). r .settings) (sym (after-end d (d .fresh settings .relay) past (reset mask)))
       ∙ relay-says d meets settings ok (past ++ (reset mask ∷ [])) .held
-      ∙ ap (λ (l : Levels). record { levels = l }) (force-end (settings .levels) past (reset mask ∷ []))
+      ∙ ap (λ (l : Levels). record { levels = l; lengths = settings .lengths }) (force-end (settings .levels) past (reset mask ∷ []))
       ∙ sym (relay-says d meets settings ok past .held)
 
   -- ---- runs
@@ -101,13 +102,13 @@ module _ (d : Implementation) (meets : Demanded d) where
 
   module _ (g : GoesOn d) where
     abbrev es : List Event
-    es = historyOf d meets g
+    es = events g
 
     abbrev kind : Kind
-    kind = kindOf (g .latch)
+    kind = kindIn g
 
     abbrev made : ChannelLevels
-    made = madeOf d meets g
+    made = madeIn g
 
     -- the run that ends there begins before the change, and so the change lies between its first and last frame
     pub keeps-changed : ¬ ChangedLately g
@@ -137,7 +138,7 @@ module _ (d : Implementation) (meets : Demanded d) where
         j : ℕ
         j = run-ends d meets g .0
 
-        ends : j + runOf (g .latch) ≡ frames es
+        ends : j + fullLength g ≡ frames es
         ends = run-ends d meets g .1
 
         all : frames es ≡ suc (numberOf g)
@@ -168,7 +169,7 @@ module _ (d : Implementation) (meets : Demanded d) where
 
         -- the change counts before the last frame
         another : kind .same (levelsAt made before (frames before)) (ownLevels (w .new) c) ≡ false
-        another = ap (λ (l : ChannelLevels). kind .same l (ownLevels (w .new) c)) levels ∙ differ-same (g .latch) _ _ (w .another)
+        another = ap (λ (l : ChannelLevels). kind .same l (ownLevels (w .new) c)) levels ∙ differ-same (g .latch) (g .settings .lengths) _ _ (w .another)
 
         since : ℕ
         since = numberOf g - frames before
@@ -192,14 +193,14 @@ module _ (d : Implementation) (meets : Demanded d) where
         next : List Event
         next = past ▷ sampled (inputOf (g .channel) (g .codes .list) (g .enable))
 
-        history : historyOf d meets g ≡ next
+        history : events g ≡ next
         history = history-frame (g .channel) (g .past) (g .codes) (g .enable) (g .taken)
 
-        all : frames (historyOf d meets g) ≡ frames next
+        all : frames (events g) ≡ frames next
         all = ap frames history
 
-        length-is : kind .len ≡ runOf (g .latch)
-        length-is = run-len (g .latch)
+        length-is : kind .len ≡ fullLength g
+        length-is = run-len (g .latch) (g .settings .lengths)
 
         rule : (calls : List Call) → T (latchAfter d (g .latch) (g .settings) calls (g .channel)) ↔ LatchOn kind made (channelHistory (g .channel) calls)
         rule calls = on-rule (g .settings) (g .accepted) calls (g .latch) (g .channel) (g .isChannel)

@@ -17,7 +17,7 @@ use Rattle.relay.specs.declared.Relay.{Relay}
 use Rattle.relay.specs.declared.ResetAnswer.{ResetAnswer}
 use Rattle.relay.specs.declared.ChangeAnswer.{ChangeAnswer}
 use Rattle.relay.specs.Relay.{channelAt, freshOf, frameOf, resetOf, changeOf}
-use Rattle.relay.proofs.Examples.{equalLevels}
+use Rattle.relay.proofs.Examples.{bench, equalLevels}
 use Rattle.history.specs.Calls.{Call, frame, reset, change, resetRefusedBy, changeRefusedBy, acceptedFrames, Implementation}
 use Rattle.history.specs.History.{Event, ownLevels, channelHistory, resets, resetsBefore, levelsAt, windowAt}
 use Rattle.history.specs.Demand.{lossOf, overOf, madeWith, relayAfter, lossAfter, overAfter, AcceptedSettings}
@@ -76,26 +76,26 @@ abbrev unlatching : Implementation
 unlatching = each (λ old new was ch. withLatches false false ch)
 
 abbrev hasty : Implementation
-hasty = each (λ old new was ch. withLatches (lossOf .meets new (ch .samples)) (ch .«over_latch») ch)
+hasty = each (λ old new was ch. withLatches (lossOf bench .meets new (ch .samples)) (ch .«over_latch») ch)
 
 -- keeps every run; keeps a run where the latest window meets the new level
 abbrev keeping : Implementation
 keeping = each (λ old new was ch. withRuns (was .«loss_run») (was .«over_run») ch)
 
 abbrev lenient : Implementation
-lenient = each (λ old new was ch. withRuns (cond (lossOf .meets new (ch .samples)) (was .«loss_run») 0)
-    (cond (overOf .meets new (ch .samples)) (was .«over_run») 0) ch)
+lenient = each (λ old new was ch. withRuns (cond (lossOf bench .meets new (ch .samples)) (was .«loss_run») 0)
+    (cond (overOf bench .meets new (ch .samples)) (was .«over_run») 0) ch)
 
 -- clears both runs of a channel where either level moved
 abbrev clearing : Implementation
 clearing = each (λ old new was ch.
-    let same : Bool = lossOf .same old new && overOf .same old new in
+    let same : Bool = lossOf bench .same old new && overOf bench .same old new in
     withRuns (cond same (was .«loss_run») 0) (cond same (was .«over_run») 0) ch)
 
 -- a run that is broken starts with the latest window, judged by the new level
 abbrev judging : Implementation
 judging = each (λ old new was ch.
-    withRuns (ch .«loss_run») (cond (overOf .same old new) (ch .«over_run») (cond (overOf .meets new (ch .samples)) 1 0)) ch)
+    withRuns (ch .«loss_run») (cond (overOf bench .same old new) (ch .«over_run») (cond (overOf bench .meets new (ch .samples)) 1 0)) ch)
 
 -- restarts age; remembers on
 abbrev rejuvenated : Implementation
@@ -170,14 +170,14 @@ record Computed : Type 0 where
   -- the loss latch of channel 3 after 16 counted frames with a change of its pickup in the middle
   cleared-run : lossAfter clearing ones raised 3 ≡ false
   raised-frames : acceptedFrames (quiet 80) ≡ 80
-  raised-run : runIn lossOf (madeWith ones 3) raisedEvents 16 72 ≡ true
-  raised-met : every 16 (λ k. meetsIn lossOf (madeWith ones 3) raisedEvents (72 + k)) ≡ true
+  raised-run : runIn (lossOf bench) (madeWith ones 3) raisedEvents 16 72 ≡ true
+  raised-met : every 16 (λ k. meetsIn (lossOf bench) (madeWith ones 3) raisedEvents (72 + k)) ≡ true
   raised-after : eqb (resetsBefore raisedEvents 72) (resets raisedEvents) ≡ true
   -- frame 72 was not over its pickup; the latch of channel 3 goes on in frame 75
   judged : (overAfter judging pickups401 lowered 3 ≡ false) × (overAfter judging pickups401 (lowered ++ (frame (still 512) 127 ∷ [])) 3 ≡ true)
   lowered-number : acceptedFrames lowered ≡ 75
   unmet : (let es : List Event = channelHistory 3 (lowered ++ (frame (still 512) 127 ∷ [])) in
-      overOf .meets (levelsAt (madeWith pickups401 3) es 72) (windowAt es 72) ≡ false)
+      overOf bench .meets (levelsAt (madeWith pickups401 3) es 72) (windowAt es 72) ≡ false)
   aged : (relayAfter rejuvenated ones (quiet 1) .age ≡ 1) × (rejuvenated .change (relayAfter rejuvenated ones (quiet 1)) dropped .relay .age ≡ 0)
   remembered : (relayAfter reminded ones (frames512 0x3F 1) .«device_on» ≡ false)
       × (reminded .change (relayAfter reminded ones (frames512 0x3F 1)) dropped .relay .«device_on» ≡ true)
@@ -207,7 +207,7 @@ facts =
       remembered = (refl, refl);
       restored = (refl, refl);
       refused = refl;
-      accepted401 = in-range pickups401 refl refl refl;
+      accepted401 = in-range pickups401 refl refl refl refl;
     }
 
 -- ---- one relay of each kind, and a second where it has two sides
@@ -250,7 +250,7 @@ changed-ones =
         first = 72;
         begun = from-on (facts .raised-frames) (lit< tt);
         notEnded = up-to (facts .raised-frames) (lit< tt);
-        run = full-meeting lossOf (madeWith ones 3) raisedEvents 72 (facts .raised-run) (facts .raised-met) (facts .raised-after);
+        run = full-meeting (lossOf bench) (madeWith ones 3) raisedEvents 72 (facts .raised-run) (facts .raised-met) (facts .raised-after);
         off = λ t. subst T (facts .cleared-run) t;
       });
       old-judged = judgesOld late 72 (record {

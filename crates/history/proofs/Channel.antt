@@ -125,7 +125,7 @@ module _ (kind : Kind) (made : ChannelLevels) where
         }
 
     -- a run is kept where its own level is the same, else it is 0; the latch stays
-    pub run-changed : (run : ℕ) (latch : Bool) → RunIs es run latch → RunIs later (carriedRun kind (levelsAt made es (frames es)) new run) latch
+    pub run-changed : (run : ℕ) (latch : Bool) → RunIs es run latch → RunIs later (carriedRun (kind .same (levelsAt made es (frames es)) new) run) latch
     run-changed run latch r =
         record {
           streak = rw (inputs-changed es new) (streak (kind .same (levelsAt made es (frames es)) new) refl);
@@ -269,8 +269,8 @@ module _ (lossKind overKind : Kind) where
   carriedBy old new ch =
       record {
         samples = ch .samples;
-        «loss_run» = carriedRun lossKind old new (ch .«loss_run»);
-        «over_run» = carriedRun overKind old new (ch .«over_run»);
+        «loss_run» = carriedRun (lossKind .same old new) (ch .«loss_run»);
+        «over_run» = carriedRun (overKind .same old new) (ch .«over_run»);
         «loss_latch» = ch .«loss_latch»;
         «over_latch» = ch .«over_latch»;
       }

@@ -16,18 +16,20 @@ use Rattle.lists.specs.Each.{table}
 use Rattle.lists.proofs.Each.{every-at}
 use Rattle.phasor.proofs.Calls.{exact}
 use Rattle.relay.specs.declared.ChannelLevels.{ChannelLevels}
+use Rattle.relay.specs.declared.Levels.{Levels}
 use Rattle.relay.specs.declared.Settings.{Settings}
 use Rattle.relay.specs.declared.FrameAnswer.{FrameAnswer}
-use Rattle.relay.specs.Settings.{levelsInRange, restraintsSound}
+use Rattle.relay.specs.Settings.{levelsInRange, restraintsSound, lengthsSound}
+use Rattle.relay.proofs.Laws.{lengths-say}
 use Rattle.relay.specs.Relay.{freshOf, frameOf, resetOf, changeOf}
-use Rattle.relay.proofs.Examples.{equalLevels}
+use Rattle.relay.proofs.Examples.{bench, settingsOf, equalLevels}
 use Rattle.history.specs.Calls.{Codes, Call, frame, reset, frameRefusedBy, resetRefusedBy, refusalOf, acceptedFrames, theRelay}
 use Rattle.history.specs.History.{Event, sampled, cleared, ownLevels, channelHistory, frames, inputAt, resets, resetsBefore}
 use Rattle.history.specs.History.{changesBefore, windowAt, Counted, Enabled, FullRun}
 use Rattle.history.specs.Demand.{harmonicTest, SurelyBelowDrop, PossiblyBelowDrop, SurelyOverPickup, PossiblyOverPickup}
 use Rattle.history.specs.Demand.{SurelyOver, PossiblyOver}
 use Rattle.history.specs.Demand.{Margins, lossOf, overOf, LossMargins, OverMargins, relayAfter, lossAfter, overAfter, AcceptedSettings}
-use Rattle.history.specs.WrongRelays.{overPickup, overByThird}
+use Rattle.history.specs.WrongRelays.{BenchLengths, overPickup, overByThird}
 use Rattle.history.proofs.Accepted.{range-says, restraints-say}
 use Rattle.history.proofs.Computed.{computed}
 use Rattle.history.proofs.Settling.{always-on, found-counted}
@@ -60,17 +62,17 @@ rising (suc n) = rising n ++ (frame (six 512 512 (513 + n) 512 512 512) 0x7F ∷
 
 -- drop levels that are all unlike, and pickup levels, and restraints; and levels of 1 with another in the last place of a kind
 abbrev nine : Settings
-nine = record { levels = record { drop = 401 ∷ 402 ∷ 403 ∷ 404 ∷ 405 ∷ 400 ∷ []; pickup = 399 ∷ 398 ∷ 401 ∷ []; restraint = 100 ∷ 0 ∷ 7 ∷ [] } }
+nine = settingsOf (record { drop = 401 ∷ 402 ∷ 403 ∷ 404 ∷ 405 ∷ 400 ∷ []; pickup = 399 ∷ 398 ∷ 401 ∷ []; restraint = 100 ∷ 0 ∷ 7 ∷ [] })
 
 abbrev lastDrop : ℕ → Settings
-lastDrop level = record { levels = record { drop = set (replicate 6 1) 5 level; pickup = replicate 3 1; restraint = replicate 3 0 } }
+lastDrop level = settingsOf (record { drop = set (replicate 6 1) 5 level; pickup = replicate 3 1; restraint = replicate 3 0 })
 
 abbrev lastPickup : ℕ → Settings
-lastPickup level = record { levels = record { drop = replicate 6 1; pickup = set (replicate 3 1) 2 level; restraint = replicate 3 0 } }
+lastPickup level = settingsOf (record { drop = replicate 6 1; pickup = set (replicate 3 1) 2 level; restraint = replicate 3 0 })
 
 -- levels of 1 under these restraints
 abbrev pub restrained : List ℕ → Settings
-restrained restraint = record { levels = record { drop = replicate 6 1; pickup = replicate 3 1; restraint = restraint } }
+restrained restraint = settingsOf (record { drop = replicate 6 1; pickup = replicate 3 1; restraint = restraint })
 
 abbrev pub own : ℕ → ℕ → ℕ → Bool → ChannelLevels
 own drop pickup restraint current = record { drop = drop; pickup = pickup; restraint = restraint; current = current }
@@ -153,14 +155,14 @@ pub record HistoryCalls : Type 0 where
       ≡ own 401 0 0 false ∷ own 402 0 0 false ∷ own 403 0 0 false ∷ own 404 399 100 true ∷ own 405 398 0 true ∷ own 400 401 7 true ∷ []
   -- the clauses on Z are said of channel c's own levels
   pub own-margins : (LossMargins nine 4 story true false
-      → Margins lossOf (own 405 398 0 true) (λ l. SurelyBelowDrop (l .drop)) (λ l. PossiblyBelowDrop (l .drop)) (channelHistory 4 story) true false)
+      → Margins (lossOf bench) (own 405 398 0 true) (λ l. SurelyBelowDrop (l .drop)) (λ l. PossiblyBelowDrop (l .drop)) (channelHistory 4 story) true false)
       × (OverMargins nine 5 story true false
-      → Margins overOf (own 400 401 7 true) (λ l. SurelyOver (l .pickup) (l .restraint))
+      → Margins (overOf bench) (own 400 401 7 true) (λ l. SurelyOver (l .pickup) (l .restraint))
       (λ l. PossiblyOver (l .pickup) (l .restraint)) (channelHistory 5 story) true false)
   -- "A full run is 16 (loss) .. successive counted frames": of 88 frames the last sixteen are one, and no sixteen before or after them
-  pub full-run : FullRun lossOf (own 1 0 0 false) long 16 72
-  pub too-early : ¬ FullRun lossOf (own 1 0 0 false) long 16 71
-  pub too-late : ¬ FullRun lossOf (own 1 0 0 false) long 16 73
+  pub full-run : FullRun (lossOf bench) (own 1 0 0 false) long 16 72
+  pub too-early : ¬ FullRun (lossOf bench) (own 1 0 0 false) long 16 71
+  pub too-late : ¬ FullRun (lossOf bench) (own 1 0 0 false) long 16 73
   -- "loss latches in frame 87", which answers six latches; it does not in frame 72, the first that is counted, nor if no channel is enabled
   pub at87 : lossAfter theRelay ones (quiet 88) 0 ≡ true
   pub at72 : lossAfter theRelay ones (quiet 73) 0 ≡ false
@@ -171,16 +173,16 @@ pub record HistoryCalls : Type 0 where
   pub ages : (ourAge [] ≡ 0) × (ourAge (quiet 1) ≡ 1) × (ourAge (quiet 1 ++ (reset 0 ∷ [])) ≡ 1)
   pub amplitudes : (getD (answerTo [] 512 .amplitudes) 0 0 ≡ 0) × (getD (answerTo [] 1023 .amplitudes) 0 0 ≡ 2044)
   -- "16 (loss) or 4 (over)"; "m < drop (loss) or m ≥ pickup (over)" at m = 400
-  pub lengths : (lossOf .len ≡ 16) × (overOf .len ≡ 4)
-  pub losing : table 6 (λ c. lossOf .meets (ownLevels (nine .levels) c) window400) ≡ replicate 5 true ++ (false ∷ [])
+  pub lengths : (lossOf bench .len ≡ 16) × (overOf bench .len ≡ 4)
+  pub losing : table 6 (λ c. lossOf bench .meets (ownLevels (nine .levels) c) window400) ≡ replicate 5 true ++ (false ∷ [])
   -- the restraint of 100 holds channel 3 back: the second harmonic is 400 too
-  pub rising-over : table 6 (λ c. overOf .meets (ownLevels (nine .levels) c) window400) ≡ replicate 4 false ++ (true ∷ false ∷ [])
-  pub at-pickup : overOf .meets (ownLevels (equalLevels 1 400 .levels) 3) window400 ≡ true
+  pub rising-over : table 6 (λ c. overOf bench .meets (ownLevels (nine .levels) c) window400) ≡ replicate 4 false ++ (true ∷ false ∷ [])
+  pub at-pickup : overOf bench .meets (ownLevels (equalLevels 1 400 .levels) 3) window400 ≡ true
   -- Paper 8's test, each current with its own r: at 37 m1 − 100 m2 = 0 it fails, at 1 it holds; r 0, 1 and 100; and it is no test of the loss run
-  pub tested-0 : table 6 (λ c. overOf .meets (ownLevels (restrained (36 ∷ 37 ∷ 38 ∷ []) .levels) c) window100) ≡ replicate 5 false ++ (true ∷ [])
-  pub tested-1 : table 6 (λ c. overOf .meets (ownLevels (restrained (36 ∷ 37 ∷ 38 ∷ []) .levels) c) window173) ≡ replicate 4 false ++ (true ∷ true ∷ [])
-  pub tested-ends : table 6 (λ c. overOf .meets (ownLevels (restrained (0 ∷ 1 ∷ 100 ∷ []) .levels) c) window100) ≡ replicate 3 false ++ (true ∷ false ∷ true ∷ [])
-  pub loss-untested : table 6 (λ c. lossOf .meets (ownLevels (equalLevels 101 1 .levels) c) window100) ≡ replicate 6 true
+  pub tested-0 : table 6 (λ c. overOf bench .meets (ownLevels (restrained (36 ∷ 37 ∷ 38 ∷ []) .levels) c) window100) ≡ replicate 5 false ++ (true ∷ [])
+  pub tested-1 : table 6 (λ c. overOf bench .meets (ownLevels (restrained (36 ∷ 37 ∷ 38 ∷ []) .levels) c) window173) ≡ replicate 4 false ++ (true ∷ true ∷ [])
+  pub tested-ends : table 6 (λ c. overOf bench .meets (ownLevels (restrained (0 ∷ 1 ∷ 100 ∷ []) .levels) c) window100) ≡ replicate 3 false ++ (true ∷ false ∷ true ∷ [])
+  pub loss-untested : table 6 (λ c. lossOf bench .meets (ownLevels (equalLevels 101 1 .levels) c) window100) ≡ replicate 6 true
   pub test-alone : (harmonicTest 37 window100 ≡ false) × (harmonicTest 37 window173 ≡ true) × (harmonicTest 0 window100 ≡ true)
   -- the tests of wrong relays: m ≥ pickup alone at m = 400, and the third harmonic, which is 400 too and restrains under 15
   pub over-alone : table 3 (λ k. overPickup k nine window400) ≡ true ∷ true ∷ false ∷ []
@@ -195,13 +197,21 @@ pub record HistoryCalls : Type 0 where
 
 -- settings whose tests compute to true
 pub in-range : (s : Settings) → levelsInRange 6 (s .levels .drop) ≡ true → levelsInRange 3 (s .levels .pickup) ≡ true → restraintsSound (s .levels .restraint) ≡ true
-    → AcceptedSettings s
-in-range s d p r =
+    → lengthsSound (s .lengths) ≡ true → AcceptedSettings s
+in-range s d p r l =
     record {
       drops = range-says 6 (s .levels .drop) d;
       pickups = range-says 3 (s .levels .pickup) p;
       restraints = restraints-say (s .levels .restraint) r;
+      lossLength = lengths-say (s .lengths) l .0;
+      overLength = lengths-say (s .lengths) l .1;
     }
+
+-- such levels with the bench's lengths
+pub at-bench : (l : Levels) → levelsInRange 6 (l .drop) ≡ true → levelsInRange 3 (l .pickup) ≡ true → restraintsSound (l .restraint) ≡ true
+    → BenchLengths (settingsOf l)
+unfolding lengthsSound
+at-bench l d p r = record { accepted = in-range (settingsOf l) d p r refl; lossLength = refl; overLength = refl }
 
 pub calls : HistoryCalls
 unfolding computed
@@ -212,15 +222,19 @@ calls =
         drops = λ c h. rw (getD-replicate {A = ℕ} 6 c 10700 0 h) (omega arith, omega arith);
         pickups = λ k h. rw (getD-replicate {A = ℕ} 3 k 1 0 h) (omega arith, omega arith);
         restraints = restraints-say (replicate 3 0) refl;
+        lossLength = (omega arith, omega arith);
+        overLength = (omega arith, omega arith);
       };
       highest-pickups = record {
         drops = λ c h. rw (getD-replicate {A = ℕ} 6 c 1 0 h) (omega arith, omega arith);
         pickups = λ k h. rw (getD-replicate {A = ℕ} 3 k 10700 0 h) (omega arith, omega arith);
         restraints = restraints-say (replicate 3 0) refl;
+        lossLength = (omega arith, omega arith);
+        overLength = (omega arith, omega arith);
       };
-      lowest = in-range ones refl refl refl;
-      unlike = in-range nine refl refl refl;
-      highest-restraints = in-range (restrained (replicate 3 100)) refl refl refl;
+      lowest = in-range ones refl refl refl refl;
+      unlike = in-range nine refl refl refl refl;
+      highest-restraints = in-range (restrained (replicate 3 100)) refl refl refl refl;
       last-restraint = λ s. absurd (omega (arith, s .restraints 2 (omega arith)));
       last-drop = (λ s. absurd (omega (arith, s .drops 5 (omega arith) .1)), λ s. absurd (omega (arith, s .drops 5 (omega arith) .0)));
       last-pickup = (λ s. absurd (omega (arith, s .pickups 2 (omega arith) .1)), λ s. absurd (omega (arith, s .pickups 2 (omega arith) .0)));
@@ -251,7 +265,7 @@ calls =
           counted = always-on (bit6In long) n a (λ k l. on k (omega arith) .1);
           enabled = yes-and (inputAt long n .channelBit) (inputAt long n .bit6) (on n (omega arith) .0) (on n (omega arith) .1);
           notSeparated = eqb-true _ 0 (every-at 88 (λ n. eqb (resetsBefore long n) 0) refl n (omega arith));
-          notChanged = eqb-true _ 0 (every-at 88 (λ n. eqb (changesBefore lossOf (own 1 0 0 false) long n) 0) refl n (omega arith));
+          notChanged = eqb-true _ 0 (every-at 88 (λ n. eqb (changesBefore (lossOf bench) (own 1 0 0 false) long n) 0) refl n (omega arith));
         };
       };
       too-early = λ r. absurd (omega (arith, r .each 71 (omega arith) (omega arith) .counted .late));

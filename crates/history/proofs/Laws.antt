@@ -35,11 +35,12 @@ module _ (d : Implementation) (meets : Demanded d) (settings : Settings) (ok : A
   pub answer-says : (past : List Call) (call : Call) → CallAnswered d settings past call
   answer-says past call = meets settings ok (past ++ (call ∷ [])) .answers past call [] refl
 
-  -- "Refusal 2 never occurs in it"; the settings are those in force (Paper 6)
+  -- "Refusal 2 never occurs in it"; the levels are those in force (Paper 6), the lengths those made with (Paper 9)
   pub always-sound : (calls : List Call) → soundOf (relayAfter d settings calls) ≡ true
   always-sound calls = relay-says calls .sound
 
-  pub holds-settings : (calls : List Call) → relayAfter d settings calls .settings ≡ record { levels = inForce (settings .levels) calls }
+  pub holds-settings : (calls : List Call) → relayAfter d settings calls .settings
+      ≡ record { levels = inForce (settings .levels) calls; lengths = settings .lengths }
   holds-settings calls = relay-says calls .held
 
   -- "A refused call changes nothing": what a refused frame, reset and change answer, in full
@@ -86,6 +87,13 @@ module _ (d : Implementation) (meets : Demanded d) (settings : Settings) (ok : A
     abbrev level : ℕ → ℕ → ChannelLevels
     level c n = levelsAt (made c) (history c) n
 
+    -- "Wherever a rule on runs says 16 or 4 it means these" (Paper 9)
+    abbrev lossLength : ℕ
+    lossLength = settings .lengths .loss
+
+    abbrev overLength : ℕ
+    overLength = settings .lengths .over
+
     -- Paper 8: "r is 0 or 100 times the second-harmonic amplitude is less than r times the fundamental", in frame n
     abbrev Tested : ℕ → ℕ → Type 0
     Tested c n =
@@ -93,25 +101,27 @@ module _ (d : Implementation) (meets : Demanded d) (settings : Settings) (ok : A
         T (eqb r 0 || ltb (100 * amplitudeOf 2 (windowAt (history c) n)) (r * amplitudeOf 1 (windowAt (history c) n)))
 
     -- "if Z ≥ pickup + 2 (over) or Z < drop − 2 (loss) in each frame of a full run, the latch is on after its last frame"
-    pub loss-clear : (c : ℕ) → c < 6 → (j : ℕ) → j + 16 ≡ frames (history c) → FullRun lossOf (made c) (history c) 16 j
-        → ((n : ℕ) → j ≤ n → n < j + 16 → ¬ AtLeast 1 (windowAt (history c) n) (pos (level c n .drop) -ℤ pos 2))
+    pub loss-clear : (c : ℕ) → c < 6 → (j : ℕ) → j + lossLength ≡ frames (history c)
+        → FullRun (lossOf (settings .lengths)) (made c) (history c) lossLength j
+        → ((n : ℕ) → j ≤ n → n < j + lossLength → ¬ AtLeast 1 (windowAt (history c) n) (pos (level c n .drop) -ℤ pos 2))
         → T (lossAfter d settings calls c)
     loss-clear c h = answered .lossMargins c h .clearMargin
 
-    pub over-clear : (c : ℕ) → 3 ≤ c → c < 6 → (j : ℕ) → j + 4 ≡ frames (history c) → FullRun overOf (made c) (history c) 4 j
-        → ((n : ℕ) → j ≤ n → n < j + 4 → AtLeast 1 (windowAt (history c) n) (pos (level c n .pickup) +ℤ pos 2) × Tested c n)
+    pub over-clear : (c : ℕ) → 3 ≤ c → c < 6 → (j : ℕ) → j + overLength ≡ frames (history c)
+        → FullRun (overOf (settings .lengths)) (made c) (history c) overLength j
+        → ((n : ℕ) → j ≤ n → n < j + overLength → AtLeast 1 (windowAt (history c) n) (pos (level c n .pickup) +ℤ pos 2) × Tested c n)
         → T (overAfter d settings calls c)
     over-clear c k h = answered .overMargins c k h .clearMargin
 
     -- "where a latch went on in a frame, Z ≥ pickup − 2 or Z < drop + 2 held in each frame of the full run ending there"
     pub loss-near : (c : ℕ) → c < 6 → ¬ T (lossAfter d settings past c) → T (lossAfter d settings calls c)
-        → (j : ℕ) × (j + 16 ≡ frames (history c)) × FullRun lossOf (made c) (history c) 16 j
-        × ((n : ℕ) → j ≤ n → n < j + 16 → ¬ AtLeast 1 (windowAt (history c) n) (pos (level c n .drop) +ℤ pos 2))
+        → (j : ℕ) × (j + lossLength ≡ frames (history c)) × FullRun (lossOf (settings .lengths)) (made c) (history c) lossLength j
+        × ((n : ℕ) → j ≤ n → n < j + lossLength → ¬ AtLeast 1 (windowAt (history c) n) (pos (level c n .drop) +ℤ pos 2))
     loss-near c h = answered .lossMargins c h .nearMargin
 
     pub over-near : (c : ℕ) → 3 ≤ c → c < 6 → ¬ T (overAfter d settings past c) → T (overAfter d settings calls c)
-        → (j : ℕ) × (j + 4 ≡ frames (history c)) × FullRun overOf (made c) (history c) 4 j
-        × ((n : ℕ) → j ≤ n → n < j + 4 → AtLeast 1 (windowAt (history c) n) (pos (level c n .pickup) -ℤ pos 2) × Tested c n)
+        → (j : ℕ) × (j + overLength ≡ frames (history c)) × FullRun (overOf (settings .lengths)) (made c) (history c) overLength j
+        × ((n : ℕ) → j ≤ n → n < j + overLength → AtLeast 1 (windowAt (history c) n) (pos (level c n .pickup) -ℤ pos 2) × Tested c n)
     over-near c k h = answered .overMargins c k h .nearMargin
 
     -- Paper 5, what the age says: the frame is counted where it finds age 72, by the age and the memory that the relay was handed back with

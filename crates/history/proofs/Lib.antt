@@ -11,12 +11,15 @@ pub mod Refutations
 pub mod Restraint
 pub mod RestraintOnes
 pub mod Relay
+pub mod RunLengths
+pub mod RunLengthsOnes
 pub mod Runs
 pub mod Settling
 pub mod SettlingCalls
 pub mod History
 pub mod HistoryCalls
 pub mod Laws
+pub mod LengthCalls
 pub mod Tests
 pub mod Unchanged
 pub mod Theorem

@@ -10,6 +10,7 @@ use lib.Dec.{eqb}
 use borrow.Author.Tests.{eqb-true}
 use Rattle.lists.proofs.Each.{and-left, and-right}
 use Rattle.relay.specs.declared.ChannelLevels.{ChannelLevels}
+use Rattle.relay.specs.declared.Lengths.{Lengths}
 use Rattle.relay.specs.Settings.{Kind}
 use Rattle.history.specs.History.{Event, sampled, cleared, changed, levelsAt, changesBefore, InEach, FullRun}
 use Rattle.history.specs.Demand.{lossOf, overOf}
@@ -44,16 +45,16 @@ module _ (kind : Kind) (read : ChannelLevels → ℕ) (alike : (old new : Channe
       by true e = e
       by false e = omega arith
 
-pub loss-ran-under : (made : ChannelLevels) (es : List Event) (len j : ℕ) → FullRun lossOf made es len j
+pub loss-ran-under : (lengths : Lengths) (made : ChannelLevels) (es : List Event) (len j : ℕ) → FullRun (lossOf lengths) made es len j
     → InEach j len (λ n. levelsAt made es n .drop ≡ levelsAt made es j .drop)
-loss-ran-under made es len j run n a b =
-    between lossOf (λ l. l .drop) (λ old new e. eqb-true (old .drop) (new .drop) e) made es j n a (run .each n a b .notChanged)
+loss-ran-under lengths made es len j run n a b =
+    between (lossOf lengths) (λ l. l .drop) (λ old new e. eqb-true (old .drop) (new .drop) e) made es j n a (run .each n a b .notChanged)
 
-pub over-ran-under : (made : ChannelLevels) (es : List Event) (len j : ℕ) → FullRun overOf made es len j
+pub over-ran-under : (lengths : Lengths) (made : ChannelLevels) (es : List Event) (len j : ℕ) → FullRun (overOf lengths) made es len j
     → InEach j len (λ n. (levelsAt made es n .pickup ≡ levelsAt made es j .pickup) × (levelsAt made es n .restraint ≡ levelsAt made es j .restraint))
-over-ran-under made es len j run n a b = (
-  between overOf (λ l. l .pickup) (λ old new e. eqb-true (old .pickup) (new .pickup) (and-left _ (eqb (old .restraint) (new .restraint)) e)) made es j n a
+over-ran-under lengths made es len j run n a b = (
+  between (overOf lengths) (λ l. l .pickup) (λ old new e. eqb-true (old .pickup) (new .pickup) (and-left _ (eqb (old .restraint) (new .restraint)) e)) made es j n a
       (run .each n a b .notChanged),
-  between overOf (λ l. l .restraint) (λ old new e. eqb-true (old .restraint) (new .restraint) (and-right (eqb (old .pickup) (new .pickup)) _ e)) made es
+  between (overOf lengths) (λ l. l .restraint) (λ old new e. eqb-true (old .restraint) (new .restraint) (and-right (eqb (old .pickup) (new .pickup)) _ e)) made es
       j n a (run .each n a b .notChanged),
 )

@@ -1,6 +1,7 @@
 -- No wrong relay meets demand 3: what meets it answers as ours does (Unique), and on one list of calls or another a wrong relay does not. Most of
 -- these are frames of code 512 with every level 1 (document 01, "Bench figures"): "loss latches in frame 87; in frame 86 none". What ours answers is
--- computed in HistoryCalls. Relays that restrain, settle or take new levels wrongly are in Restraint, Unsettled and Changed. Rests on Unique.
+-- computed in HistoryCalls. Relays that restrain, settle, take new levels or count runs to wrong lengths are in Restraint, Unsettled, Changed and
+-- RunLengths. Rests on Unique.
 use Prim.Native.Nat.{ℕ, zero, suc, _≤_, _<_}
 use native.Mathlib.Decide.{decLe, decLt}
 use native.Mathlib.Omega.{arith}
@@ -25,12 +26,13 @@ use Rattle.history.specs.Calls.{Codes, Call, frame, reset, change, frame
 use Rattle.history.specs.Calls.{Implementation, theRelay}
 use Rattle.history.specs.History.{channelHistory, Counted}
 use Rattle.history.specs.Demand.{relayAfter, lossAfter, AcceptedSettings, Demanded}
-use Rattle.history.specs.WrongRelays.{noChange, EachFrame, EachReset, FixedLatches, Wrong, neverTrips, unaltered, fixedAmplitude}
+use Rattle.history.specs.WrongRelays.{noChange, BenchLengths, EachFrame, EachReset, FixedLatches, Wrong, neverTrips, unaltered, fixedAmplitude}
 use Rattle.history.specs.WrongRelays.{fixedLatches, restartsAge, growsDisabled, oneTooMany, refusesSettings, refusesReset}
-use Rattle.history.specs.WrongRelays.{lossLatch, GoesOn}
+use Rattle.history.specs.WrongRelays.{lossLatch, GoesOn, otherLength}
 use Rattle.history.specs.WrongRelays.{ignoresRestraint, notStrict, thirdHarmonic, keepsRun, restrainsLoss, anothersRestraint}
 use Rattle.history.specs.WrongRelays.{neverSettles, settlesAtFall, countsTheRise, forgetsAtReset, remembersRefused}
 use Rattle.history.specs.WrongRelays.{movesLatch, keepsChanged, clearsRun, judgesOld, agesAnew, forgetsAtChange, forgetsChange, refusesChange}
+use Rattle.history.specs.WrongRelays.{exchangesLengths, cutsLength, tripsLate, tripsEarly, growsOn, altersLengths}
 use Rattle.history.proofs.HistoryCalls.{ones, still, frames512, quiet, answerTo, calls}
 use Rattle.history.proofs.Laws.{answer-says}
 use Rattle.history.proofs.Changed as changed
@@ -38,6 +40,7 @@ use Rattle.history.proofs.Clock.{bit6In}
 use Rattle.history.proofs.Computed.{computed}
 use Rattle.history.proofs.Relay.{frames-frame, after-end, device-same, bit-before, bit-last}
 use Rattle.history.proofs.Restraint as restraint
+use Rattle.history.proofs.RunLengths as run-lengths
 use Rattle.history.proofs.Settling.{always-on}
 use Rattle.history.proofs.Unsettled as unsettled
 use Rattle.history.proofs.WentOn as went-on
@@ -49,6 +52,9 @@ taken = calls .middle-taken .0
 
 in-range : AcceptedSettings ones
 in-range = calls .lowest
+
+on-bench : BenchLengths ones
+on-bench = record { accepted = calls .lowest; lossLength = refl; overLength = refl }
 
 quiet-frames : (n : ℕ) → acceptedFrames (quiet n) ≡ n
 quiet-frames zero = refl
@@ -101,19 +107,19 @@ module _ (d : Implementation) (meets : Demanded d) where
 
   never-trips : ¬ EachFrame d (λ r codes enable. d .frame r codes enable .output ≡ 0)
   never-trips wrong =
-      omega (arith, wrong ones in-range (quiet 87) refl (still 512) 127 taken, frame-same (quiet 87) 512 .output, calls .output87)
+      omega (arith, wrong ones on-bench (quiet 87) refl (still 512) 127 taken, frame-same (quiet 87) 512 .output, calls .output87)
 
   stays : ¬ EachFrame d (λ r codes enable. d .frame r codes enable .relay ≡ r)
   stays wrong =
       let age : relayAfter d ones (quiet 1) .age ≡ relayAfter d ones [] .age =
-      ap (λ (r : Relay). r .age) (wrong ones in-range [] refl (still 512) 127 taken) in
+      ap (λ (r : Relay). r .age) (wrong ones on-bench [] refl (still 512) 127 taken) in
       omega (arith, age, relay-same [] .age, relay-same (quiet 1) .age, calls .ages)
 
   fixed-amplitude : (m : ℕ) → ¬ EachFrame d (λ r codes enable. d .frame r codes enable .amplitudes ≡ replicate 6 m)
   fixed-amplitude m wrong = omega (arith, is 512 taken, is 1023 (calls .codes-taken .0), calls .amplitudes)
     where
       is : (code : ℕ) → frameRefusedBy (replicate 6 code) 127 ≡ 0 → m ≡ getD (answerTo [] code .amplitudes) 0 0
-      is code e = sym (ap (λ (l : List ℕ). getD l 0 0) (wrong ones in-range [] refl (still code) 127 e)) ∙ amplitude-same code
+      is code e = sym (ap (λ (l : List ℕ). getD l 0 0) (wrong ones on-bench [] refl (still code) 127 e)) ∙ amplitude-same code
 
   fixed-latches : ¬ FixedLatches d
   fixed-latches wrong =
@@ -130,16 +136,16 @@ module _ (d : Implementation) (meets : Demanded d) where
               → lossAfter d ones (quiet (suc (suc n))) 0 ≡ lossAfter d ones (quiet 73) 0
           by (yes l) more =
               ap (λ (r : Relay). channelAt r 0 .«loss_latch») (after-end d (d .fresh ones .relay) (quiet (suc n)) (frame (still 512) 127))
-              ∙ wrong ones in-range (quiet n) (quiet-changeless n) (still 512) (still 512) 127 127 taken taken (counted n l) 0 (omega arith) ∙ more l
+              ∙ wrong ones on-bench (quiet n) (quiet-changeless n) (still 512) (still 512) 127 127 taken taken (counted n l) 0 (omega arith) ∙ more l
           by (no l) more = ap (λ (k : ℕ). lossAfter d ones (quiet (suc k)) 0) (let e : suc n ≡ 72 = omega arith in e)
 
   restarts-age : ¬ EachReset d (λ r mask. d .reset r mask .relay .age ≡ 0)
   restarts-age wrong =
-      omega (arith, wrong ones in-range (quiet 1) refl 0 (calls .ends-taken .0), relay-same (quiet 1 ++ (reset 0 ∷ [])) .age, calls .ages .2)
+      omega (arith, wrong ones on-bench (quiet 1) refl 0 (calls .ends-taken .0), relay-same (quiet 1 ++ (reset 0 ∷ [])) .age, calls .ages .2)
 
   one-too-many : ¬ EachFrame d (OneMore d)
   one-too-many wrong =
-      omega (arith, wrong ones in-range [] refl (still 512) 127 taken 0 (omega arith), amplitude-same 512, calls .amplitudes .0)
+      omega (arith, wrong ones on-bench [] refl (still 512) 127 taken 0 (omega arith), amplitude-same 512, calls .amplitudes .0)
 
 pub refuted : (d : Implementation) → Wrong d → ¬ Demanded d
 refuted d (neverTrips wrong) meets = never-trips d meets wrong
@@ -172,6 +178,12 @@ refuted d (agesAnew g wrong) meets = wrong (changed.ages-anew d meets g)
 refuted d (forgetsAtChange g wrong) meets = wrong (changed.forgets-at-change d meets g)
 refuted d (forgetsChange settings ok past mask e wrong) meets = wrong (changed.forgets-change d meets settings ok past mask)
 refuted d (refusesChange g wrong) meets = wrong (answer-says d meets (g .settings) (g .accepted) (g .past) (change (g .new)) .0 (g .taken))
+refuted d (exchangesLengths g shorter run) meets = run-lengths.short-run d meets g (otherLength g) shorter run
+refuted d (cutsLength g longer run) meets = run-lengths.short-run d meets g 16 longer run
+refuted d (tripsLate latch wrong) meets = run-lengths.trips-late d meets latch wrong
+refuted d (tripsEarly g len shorter run) meets = run-lengths.short-run d meets g len shorter run
+refuted d (growsOn settings ok calls latch c h wrong) meets = run-lengths.grows-on d meets settings ok calls latch c h wrong
+refuted d (altersLengths settings ok past call wrong) meets = wrong (run-lengths.alters-lengths d meets settings ok past call)
 
 -- ---- there are such relays: ours, with one thing changed in what accepted calls answer; a frame refused by 3 or 4 is answered as it should be
 
@@ -184,7 +196,7 @@ framing f =
       change = changeOf;
     }
 
-abbrev withFresh : (Settings → FreshAnswer) → Implementation
+abbrev pub withFresh : (Settings → FreshAnswer) → Implementation
 withFresh f = record { fresh = f; frame = frameOf; reset = resetOf; change = changeOf }
 
 abbrev pub resetting : (Relay → ℕ → ResetAnswer) → Implementation
@@ -199,7 +211,7 @@ withMemory on r = record { channels = r .channels; age = r .age; slot = r .slot;
 abbrev muted : Implementation
 muted = framing (λ r codes enable a. record { relay = a .relay; refusal = a .refusal; amplitudes = a .amplitudes; output = 0 })
 
-abbrev handing : Relay → FrameAnswer → FrameAnswer
+abbrev pub handing : Relay → FrameAnswer → FrameAnswer
 handing r a = record { relay = r; refusal = a .refusal; amplitudes = a .amplitudes; output = a .output }
 
 abbrev stuck : Implementation
@@ -259,7 +271,7 @@ abbrev deaf : Implementation
 deaf = resetting (λ r mask. cond {A = ResetAnswer} (bitOf mask 5) (record { relay = r; refusal = 5 }) (resetOf r mask))
 
 -- a fresh relay for no settings, and one for no drop level above 8,192
-abbrev none : FreshAnswer
+abbrev pub none : FreshAnswer
 none = record { relay = zeroRelay; refusal = 1 }
 
 abbrev refusing : Implementation
@@ -279,13 +291,14 @@ from-on {t = t} e h = subst (λ (k : ℕ). t ≤ k) (sym e) h
 pub up-to : {n m t : ℕ} → n ≡ m → m < t → n < t
 up-to {t = t} e h = subst (λ (k : ℕ). k < t) (sym e) h
 
--- Where the loss latch of channel 0 goes on in a last frame of code 512, every level 1.
-abbrev pub goes-on : (d : Implementation) (past : List Call) (enable : ℕ) → frameRefusedBy (replicate 6 512) enable ≡ 0
-    → lossAfter d ones past 0 ≡ false → lossAfter d ones (past ++ (frame (still 512) enable ∷ [])) 0 ≡ true → GoesOn d
-goes-on d past enable e was now =
+-- Where the loss latch of channel 0 goes on in a last frame of code 512: of any settings, and every level 1.
+abbrev pub goes-on-in : (d : Implementation) (settings : Settings) → AcceptedSettings settings → (past : List Call) (enable : ℕ)
+    → frameRefusedBy (replicate 6 512) enable ≡ 0 → lossAfter d settings past 0 ≡ false
+    → lossAfter d settings (past ++ (frame (still 512) enable ∷ [])) 0 ≡ true → GoesOn d
+goes-on-in d settings ok past enable e was now =
     record {
-      settings = ones;
-      accepted = calls .lowest;
+      settings = settings;
+      accepted = ok;
       past = past;
       codes = still 512;
       enable = enable;
@@ -297,6 +310,10 @@ goes-on d past enable e was now =
       now = subst T (sym now) tt;
     }
 
+abbrev pub goes-on : (d : Implementation) (past : List Call) (enable : ℕ) → frameRefusedBy (replicate 6 512) enable ≡ 0
+    → lossAfter d ones past 0 ≡ false → lossAfter d ones (past ++ (frame (still 512) enable ∷ [])) 0 ≡ true → GoesOn d
+goes-on d = goes-on-in d ones (calls .lowest)
+
 record Facts : Type 0 where
   off-taken : frameRefusedBy (replicate 6 512) 0x3F ≡ 0
   enabling-on : (lossAfter enabling ones (frames512 0 87) 0 ≡ false) × (lossAfter enabling ones (frames512 0 88) 0 ≡ true)
@@ -306,8 +323,8 @@ facts : Facts
 unfolding computed
 facts = record { off-taken = refl; enabling-on = (refl, refl); growing-on = (refl, refl) }
 
--- one implementation of each of the first nine kinds; those of restraint, of settling and of new levels are in RestraintOnes, UnsettledOnes and
--- ChangedOnes
+-- one implementation of each of the first nine kinds; those of restraint, of settling, of new levels and of lengths are in RestraintOnes,
+-- UnsettledOnes, ChangedOnes and RunLengthsOnes
 pub record WrongOnes : Type 0 where
   pub never-trips : Wrong muted
   pub unaltered-one : Wrong stuck

@@ -3,24 +3,26 @@
 use Prim.Native.Nat.{ℕ, zero, suc, _<_}
 use native.Mathlib.Decide.{ℕ-discrete}
 use native.Mathlib.Omega.{arith}
-use mathlib.Core.Path.{_≡_, refl, sym, ap, ap₂, _∙_}
+use mathlib.Core.Path.{_≡_, refl, sym, ap, ap₂, _∙_, subst}
 use mathlib.Core.Bool.{Bool, true, false, _&&_, cond}
 use mathlib.Core.List.{List, [], _∷_, _++_, append-nil, append-assoc}
 use lib.Dec.{leb}
 use lib.ListN.{length, getD, List·getD-append}
 use lib.Seq.{getD-append-seam}
 use borrow.Author.Tests.{ne-eqb}
+use Rattle.relay.specs.declared.Lengths.{Lengths}
 use Rattle.relay.specs.declared.Levels.{Levels}
 use Rattle.relay.specs.declared.Settings.{Settings}
 use Rattle.relay.specs.declared.Relay.{Relay}
 use Rattle.frames.specs.Bits.{bitOf}
 use Rattle.relay.specs.declared.ChannelLevels.{ChannelLevels}
-use Rattle.relay.specs.Settings.{levelsOf, loss, over}
+use Rattle.relay.specs.Settings.{Kind, levelsOf, loss, over}
 use Rattle.relay.specs.Channel.{clearedOf, channelAfter}
 use Rattle.relay.specs.Sound.{soundOf}
 use Rattle.relay.specs.Relay.{channelAt, unusedRelay, freshRelay, nextChannel, acceptedFrame, resetChannel, acceptedReset}
 use Rattle.relay.specs.Relay.{changedChannel, acceptedChange}
 use Rattle.relay.proofs.Changes.{change-sound, change-channel}
+use Rattle.relay.proofs.RunLengths.{sound-lengths}
 use Rattle.relay.proofs.Laws.{fresh-is, fresh-sound, fresh-channel, frame-sound, frame-channel, reset-sound, reset-channel}
 use Rattle.history.specs.Calls.{Codes, Call, frame, reset, change, frameRefusedBy, resetRefusedBy, changeRefusedBy, refusalOf, isAccepted}
 use Rattle.history.specs.Calls.{acceptedFrames, deviceBits, deviceBit, inForce}
@@ -228,14 +230,36 @@ current-at c (change new ∷ calls) made e n =
 -- ---- the relay
 
 module _ (settings : Settings) where
-  -- channel c of the relay is as its own history of the calls says
+  -- channel c of the relay is as its own history of the calls says, with such lengths, or with the relay's own
+  abbrev channelIsBy : Lengths → List Call → Relay → ℕ → Type 0
+  channelIsBy lengths calls r c = ChannelIs (loss lengths) (over lengths) (madeWith settings c) (channelHistory c calls) (clockOf r) (channelAt r c)
+
+  abbrev lossIn : Relay → Kind
+  lossIn r = loss (r .settings .lengths)
+
+  abbrev overIn : Relay → Kind
+  overIn r = over (r .settings .lengths)
+
   abbrev AtChannel : List Call → Relay → ℕ → Type 0
-  AtChannel calls r c = ChannelIs loss over (madeWith settings c) (channelHistory c calls) (clockOf r) (channelAt r c)
+  AtChannel calls r c = channelIsBy (r .settings .lengths) calls r c
 
   pub record Is (calls : List Call) (r : Relay) : Type 0 where
     pub sound : soundOf r ≡ true
     pub channel : (c : ℕ) → c < 6 → AtChannel calls r c
-    pub held : r .settings ≡ record { levels = inForce (settings .levels) calls }
+    pub held : r .settings ≡ record { levels = inForce (settings .levels) calls; lengths = settings .lengths }
+
+  -- these are the lengths that it was made with
+  pub channel-is : (calls : List Call) (r : Relay) → Is calls r → (c : ℕ) → c < 6 → channelIsBy (settings .lengths) calls r c
+  channel-is calls r v c h =
+      subst (λ (l : Lengths). channelIsBy l calls r c) (ap (λ (s : Settings). s .lengths) (v .held)) (v .channel c h)
+
+  -- a sound relay's are above 0
+  module _ (calls : List Call) (r : Relay) (v : Is calls r) where
+    some-loss : 0 < r .settings .lengths .loss
+    some-loss = omega (arith, sound-lengths r (v .sound) .lossLength)
+
+    some-over : 0 < r .settings .lengths .over
+    some-over = omega (arith, sound-lengths r (v .sound) .overLength)
 
   -- channel c's own levels in it are those at the end of its history
   own-levels : (calls : List Call) (r : Relay) → Is calls r → (c : ℕ)
@@ -247,7 +271,9 @@ module _ (settings : Settings) where
   fresh-is-so ok =
       record {
         sound = fresh-sound settings (settings-sound settings ok);
-        channel = λ c h. rw (fresh-channel settings c h) (channel-fresh loss over (omega arith) (omega arith) (madeWith settings c));
+        channel = λ c h. rw (fresh-channel settings c h)
+            (channel-fresh (loss (settings .lengths)) (over (settings .lengths)) (omega (arith, ok .lossLength)) (omega (arith, ok .overLength))
+            (madeWith settings c));
         held = refl;
       }
 
@@ -258,9 +284,10 @@ module _ (settings : Settings) where
       record {
         sound = frame-sound r (codes .list) enable (v .sound) (frame-codes (codes .list) enable e);
         channel = λ c h. rw (frame-channel r (codes .list) enable c h, history-frame c calls codes enable e)
-            (channel-sampled loss over (omega arith) (omega arith) (madeWith settings c) (channelHistory c calls) (clockOf r) (channelAt r c)
+            (channel-sampled (lossIn r) (overIn r) (some-loss calls r v) (some-over calls r v) (madeWith settings c)
+            (channelHistory c calls) (clockOf r) (channelAt r c)
             (v .channel c h) (ownLevels (r .settings .levels) c) (own-levels calls r v c) (getD (codes .list) c 0) (bitOf enable c) (bitOf enable 6));
-        held = v .held ∙ ap (λ (l : Levels). record { levels = l }) (sym (force-end (settings .levels) calls (frame codes enable ∷ [])));
+        held = v .held ∙ ap (λ (l : Levels). record { levels = l; lengths = settings .lengths }) (sym (force-end (settings .levels) calls (frame codes enable ∷ [])));
       }
 
   reset-is : (calls : List Call) (r : Relay) (mask : ℕ) → resetRefusedBy mask ≡ 0 → Is calls r
@@ -270,14 +297,15 @@ module _ (settings : Settings) where
       record {
         sound = reset-sound r mask (v .sound);
         channel = λ c h. rw (reset-channel r mask c h, history-reset c calls mask e) (named c (bitOf mask c) (v .channel c h));
-        held = v .held ∙ ap (λ (l : Levels). record { levels = l }) (sym (force-end (settings .levels) calls (reset mask ∷ [])));
+        held = v .held ∙ ap (λ (l : Levels). record { levels = l; lengths = settings .lengths }) (sym (force-end (settings .levels) calls (reset mask ∷ [])));
       }
     where
       named : (c : ℕ) (b : Bool) → AtChannel calls r c
-          → ChannelIs loss over (madeWith settings c) (channelHistory c calls ++ cond b (cleared ∷ []) []) (clockOf r)
+          → ChannelIs (lossIn r) (overIn r) (madeWith settings c) (channelHistory c calls ++ cond b (cleared ∷ []) []) (clockOf r)
           (cond b (clearedOf (channelAt r c)) (channelAt r c))
       named c true w =
-          channel-cleared loss over (omega arith) (omega arith) (madeWith settings c) (channelHistory c calls) (clockOf r) (channelAt r c) w
+          channel-cleared (lossIn r) (overIn r) (some-loss calls r v) (some-over calls r v) (madeWith settings c)
+          (channelHistory c calls) (clockOf r) (channelAt r c) w
       named c false w = rw append-nil w
 
   change-is : (calls : List Call) (r : Relay) (new : Levels) → changeRefusedBy new ≡ 0 → Is calls r
@@ -287,10 +315,12 @@ module _ (settings : Settings) where
       record {
         sound = change-sound r new (v .sound) (change-refusal new ∙ e);
         channel = λ c h. rw (change-channel r new c h, history-change c calls new e)
-            (channel-changed loss over (omega arith) (omega arith) (madeWith settings c) (channelHistory c calls) (clockOf r) (channelAt r c)
+            (channel-changed (lossIn r) (overIn r) (some-loss calls r v) (some-over calls r v) (madeWith settings c)
+            (channelHistory c calls) (clockOf r) (channelAt r c)
             (v .channel c h) (ownLevels (r .settings .levels) c) (ownLevels new c) (own-levels calls r v c));
-        held = ap (λ (l : Levels). record { levels = l })
-            (sym (force-end (settings .levels) calls (change new ∷ []) ∙ force-change (inForce (settings .levels) calls) new e));
+        held = ap₂ (λ (l : Levels) (n : Lengths). record { levels = l; lengths = n })
+            (sym (force-end (settings .levels) calls (change new ∷ []) ∙ force-change (inForce (settings .levels) calls) new e))
+            (ap (λ (s : Settings). s .lengths) (v .held));
       }
 
   refused-is : (calls : List Call) (r : Relay) (call : Call) → ¬ (refusalOf call ≡ 0) → Is calls r → Is (calls ++ (call ∷ [])) r
@@ -298,7 +328,7 @@ module _ (settings : Settings) where
       record {
         sound = v .sound;
         channel = λ c h. rw (history-refused c calls call e) (v .channel c h);
-        held = v .held ∙ ap (λ (l : Levels). record { levels = l })
+        held = v .held ∙ ap (λ (l : Levels). record { levels = l; lengths = settings .lengths })
             (sym (force-end (settings .levels) calls (call ∷ []) ∙ force-refused (inForce (settings .levels) calls) call e));
       }
 

@@ -15,11 +15,12 @@ use Rattle.lists.proofs.Each.{every-at, and-left, and-right}
 use Rattle.relay.specs.declared.Settings.{Settings}
 use Rattle.history.specs.Calls.{Call, frame, acceptedFrames, Implementation, theRelay}
 use Rattle.history.specs.History.{Event, channelHistory, frames, resets, resetsBefore, windowAt, LatchOn}
+use Rattle.relay.proofs.Examples.{settingsOf}
 use Rattle.history.specs.Demand.{overOf, madeWith, lossAfter, overAfter, AcceptedSettings, Demanded}
-use Rattle.history.specs.WrongRelays.{noChange, runOfWindows, TripsBy, overPickup, overBy, overAtMost, overByThird, KeepsRun, lossTested, RestrainsLoss}
+use Rattle.history.specs.WrongRelays.{noChange, BenchLengths, runOfWindows, TripsBy, overPickup, overBy, overAtMost, overByThird, KeepsRun, lossTested, RestrainsLoss}
 use Rattle.history.proofs.Computed.{computed}
 use Rattle.history.proofs.FullRuns.{runIn, each-holds, full-run, full-meeting}
-use Rattle.history.proofs.HistoryCalls.{still, restrained, in-range}
+use Rattle.history.proofs.HistoryCalls.{still, restrained, at-bench}
 use Rattle.history.proofs.Relay.{frames-same}
 use Rattle.history.proofs.Tests.{holds}
 use Rattle.history.proofs.Unique.{same-relay}
@@ -65,10 +66,10 @@ module _ (d : Implementation) (meets : Demanded d) where
       → ¬ T (overAfter d s calls c)
   over-same s ok calls c h off t = subst T (same-relay d meets s ok calls .overLatch c h ∙ off) t
 
-  trips : (test : Settings → List ℤ → Bool) (s : Settings) → AcceptedSettings s → (calls : List Call) → noChange calls ≡ true → (c : ℕ) → c < 6
+  trips : (test : Settings → List ℤ → Bool) (s : Settings) → BenchLengths s → (calls : List Call) → noChange calls ≡ true → (c : ℕ) → c < 6
       → shown test s calls c ≡ true → ¬ TripsBy d c test
   trips test s ok calls none c h e wrong =
-      over-same s ok calls c h (not-true _ (and-right (run && each) (not (overAfter theRelay s calls c)) e))
+      over-same s (ok .accepted) calls c h (not-true _ (and-right (run && each) (not (overAfter theRelay s calls c)) e))
       (wrong s ok calls none (
         72,
         full-meeting (runOfWindows 4 (test s)) (madeWith s c) es 72 (and-left _ (eqb (resetsBefore es 72) (resets es)) (and-left run each both))
@@ -107,14 +108,14 @@ butFor l = restrained (set (replicate 3 15) l 0)
 
 -- drops of 401, which struck windows are below
 abbrev dropping : Settings
-dropping = record { levels = record { drop = replicate 6 401; pickup = replicate 3 1; restraint = replicate 3 15 } }
+dropping = settingsOf (record { drop = replicate 6 401; pickup = replicate 3 1; restraint = replicate 3 15 })
 
 abbrev long : List Call
 long = cycle (612 ∷ replicate 7 512) 88
 
 -- the same for the wrong relay of `KeepsRun`: 77 frames, of which the last five are as it says, and our latch is off
 abbrev whole : Settings → List Event → ℕ → Bool
-whole s es k = runIn overOf (madeWith s (k + 3)) es 5 72 && eqb (resetsBefore es 72) (resets es)
+whole s es k = runIn (overOf (s .lengths)) (madeWith s (k + 3)) es 5 72 && eqb (resetsBefore es 72) (resets es)
 
 abbrev kept : Settings → List Call → ℕ → Bool
 kept s calls k =
@@ -156,30 +157,30 @@ facts =
 -- ---- the six kinds
 
 pub record Accepted : Type 0 where
-  fifteens : AcceptedSettings fifteen
-  pub thirties : AcceptedSettings thirty
-  fifties : AcceptedSettings fifty
-  hundreds : AcceptedSettings hundred
-  drops : AcceptedSettings dropping
-  first-off : AcceptedSettings (butFor 0)
-  second-off : AcceptedSettings (butFor 1)
-  third-off : AcceptedSettings (butFor 2)
+  fifteens : BenchLengths fifteen
+  pub thirties : BenchLengths thirty
+  fifties : BenchLengths fifty
+  hundreds : BenchLengths hundred
+  drops : BenchLengths dropping
+  first-off : BenchLengths (butFor 0)
+  second-off : BenchLengths (butFor 1)
+  third-off : BenchLengths (butFor 2)
 
 pub accepted : Accepted
 unfolding computed
 accepted =
     record {
-      fifteens = in-range fifteen refl refl refl;
-      thirties = in-range thirty refl refl refl;
-      fifties = in-range fifty refl refl refl;
-      hundreds = in-range hundred refl refl refl;
-      drops = in-range dropping refl refl refl;
-      first-off = in-range (butFor 0) refl refl refl;
-      second-off = in-range (butFor 1) refl refl refl;
-      third-off = in-range (butFor 2) refl refl refl;
+      fifteens = at-bench (fifteen .levels) refl refl refl;
+      thirties = at-bench (thirty .levels) refl refl refl;
+      fifties = at-bench (fifty .levels) refl refl refl;
+      hundreds = at-bench (hundred .levels) refl refl refl;
+      drops = at-bench (dropping .levels) refl refl refl;
+      first-off = at-bench (butFor 0 .levels) refl refl refl;
+      second-off = at-bench (butFor 1 .levels) refl refl refl;
+      third-off = at-bench (butFor 2 .levels) refl refl refl;
     }
 
-accepted-but : (l : ℕ) → l < 3 → AcceptedSettings (butFor l)
+accepted-but : (l : ℕ) → l < 3 → BenchLengths (butFor l)
 accepted-but zero h = accepted .first-off
 accepted-but (suc zero) h = accepted .second-off
 accepted-but (suc (suc zero)) h = accepted .third-off
@@ -218,11 +219,11 @@ module _ (d : Implementation) (meets : Demanded d) (k : ℕ) (h : k < 3) where
 
   pub keeps-run : ¬ KeepsRun d k
   keeps-run wrong =
-      over-same d meets thirty (accepted .thirties) broken (k + 3) (omega arith) (not-true _ (and-right body _ e))
+      over-same d meets thirty (accepted .thirties .accepted) broken (k + 3) (omega arith) (not-true _ (and-right body _ e))
       (wrong thirty (accepted .thirties) broken (facts .no-changes .2) 72 (sym all)
-      (full-run overOf (madeWith thirty (k + 3)) es 5 72 (and-left _ (eqb (resetsBefore es 72) (resets es)) (and-left (whole thirty es k) three front)))
+      (full-run (overOf (thirty .lengths)) (madeWith thirty (k + 3)) es 5 72 (and-left _ (eqb (resetsBefore es 72) (resets es)) (and-left (whole thirty es k) three front)))
       (eqb-true (resetsBefore es 72) (resets es)
-      (and-right (runIn overOf (madeWith thirty (k + 3)) es 5 72) _ (and-left (whole thirty es k) three front)))
+      (and-right (runIn (overOf (thirty .lengths)) (madeWith thirty (k + 3)) es 5 72) _ (and-left (whole thirty es k) three front)))
       (each-holds fed 72 3 (and-right (whole thirty es k) three front)) (holds over (and-left over (not (fed 75)) middle))
       (fails (fed 75) (and-right over (not (fed 75)) middle)) (holds (fed 76) (and-right (over && not (fed 75)) (fed 76) back)))
     where
@@ -272,7 +273,7 @@ module _ (d : Implementation) (meets : Demanded d) (k : ℕ) (h : k < 3) where
       e = every-at 3 lost (facts .losing) k h
 
       on : lossAfter d dropping long (k + 3) ≡ true
-      on = same-relay d meets dropping (accepted .drops) long .lossLatch (k + 3) (omega arith) ∙ and-left _ _ e
+      on = same-relay d meets dropping (accepted .drops .accepted) long .lossLatch (k + 3) (omega arith) ∙ and-left _ _ e
 
       -- a full run of 16 in 88 frames begins in frame 72
       no : ¬ LatchOn (lossTested dropping k) (madeWith dropping (k + 3)) es

@@ -232,17 +232,17 @@ overTested test settings c w = leb 3 c && test (c - 3) settings w
 
 -- the demand's own tests, under the levels made with
 abbrev lossOwn : Tests
-lossOwn settings c w = lossOf .meets (madeWith settings c) w
+lossOwn settings c w = lossOf (settings .lengths) .meets (madeWith settings c) w
 
 abbrev overOwn : Tests
-overOwn settings c w = overOf .meets (madeWith settings c) w
+overOwn settings c w = overOf (settings .lengths) .meets (madeWith settings c) w
 
 abbrev tested : (ℕ → Settings → List ℤ → Bool) → Implementation
 tested test = making (withTests lossOwn (overTested test))
 
 tested-trips : (test : ℕ → Settings → List ℤ → Bool) (k : ℕ) → k < 3 → TripsBy (tested test) (k + 3) (test k)
 tested-trips test k h settings ok calls none on =
-    over-on lossOwn (overTested test) settings ok calls none (k + 3) (omega arith) .1
+    over-on lossOwn (overTested test) settings (ok .accepted) calls none (k + 3) (omega arith) .1
     (widened 4 (test k settings) (overTested test settings (k + 3)) (madeWith settings (k + 3)) (channelHistory (k + 3) calls)
     (λ w t. yes-and (leb 3 (k + 3)) _ (le→leb 3 (k + 3) (omega arith)) (subst (λ (m : ℕ). T (test m settings w)) (back k) t)) on)
 
@@ -261,7 +261,7 @@ loss-too k h settings ok calls none on =
     widened 16 (lossRestrained settings (k + 3)) (lossTested settings k .meets (madeWith settings (k + 3))) (madeWith settings (k + 3))
     (channelHistory (k + 3) calls)
     (λ w t. subst (λ (r : ℕ). T (lossOwn settings (k + 3) w && harmonicTest r w)) (restraint-of settings k) t)
-    (loss-on lossRestrained overOwn settings ok calls none (k + 3) (omega arith) .0 on)
+    (loss-on lossRestrained overOwn settings (ok .accepted) calls none (k + 3) (omega arith) .0 on)
 
 -- ---- a restrained frame leaves the run as it was
 
@@ -454,7 +454,7 @@ keeps-run k h settings ok calls none j e run after fed over not-fed last =
 
     v : Kept settings (k + 3) es (clockOf (relayAfter (making keeps) settings calls))
         (channelAt (relayAfter (making keeps) settings calls) (k + 3))
-    v = making-is keeps settings ok (λ c. Kept settings c) (λ c. kept-fresh settings c) (λ c. kept-sampled settings c) (λ c. kept-cleared settings c)
+    v = making-is keeps settings (ok .accepted) (λ c. Kept settings c) (λ c. kept-fresh settings c) (λ c. kept-sampled settings c) (λ c. kept-cleared settings c)
         calls none .channel (k + 3) (omega arith)
 
     three : leb 3 (k + 3) ≡ true
@@ -471,7 +471,7 @@ keeps-run k h settings ok calls none j e run after fed over not-fed last =
 
     held-at : Live (H settings (k + 3)) (madeWith settings (k + 3)) es (j + 3)
     held-at =
-        let r : InRun overOf (madeWith settings (k + 3)) es j (j + 3) = run .each (j + 3) (omega arith) (omega arith) in (
+        let r : InRun (overOf (settings .lengths)) (madeWith settings (k + 3)) es j (j + 3) = run .each (j + 3) (omega arith) (omega arith) in (
           r .counted,
           r .enabled,
           rw (three, ← back k) (holds-back (overPickup k settings (windowAt es (j + 3)))

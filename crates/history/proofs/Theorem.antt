@@ -37,7 +37,7 @@ use Rattle.history.proofs.History.{_▷_, input-last}
 use Rattle.history.proofs.Settling.{latest-same, since-same}
 use Rattle.history.proofs.Clock.{clockOf, bit6In, ClockIs}
 use Rattle.history.proofs.Channel.{ChannelIs, loss-rule, over-rule, margins}
-use Rattle.history.proofs.Relay.{Is, relay-is, frame-is, history-frame, frames-same, frames-frame, device-same, current-at}
+use Rattle.history.proofs.Relay.{Is, channel-is, relay-is, frame-is, history-frame, frames-same, frames-frame, device-same, current-at}
 use Rattle.history.proofs.Windows.{window-sound}
 
 -- a latch is on and the channel is enabled
@@ -53,6 +53,17 @@ module _ (settings : Settings) (ok : AcceptedSettings settings) where
   is : (calls : List Call) → Is settings calls (relay calls)
   is calls = relay-is settings ok calls
 
+  -- each channel, with the lengths that the relay was made with
+  at-channel : (calls : List Call) (c : ℕ) → c < 6 → ChannelIs (loss (settings .lengths)) (over (settings .lengths)) (madeWith settings c)
+      (channelHistory c calls) (clockOf (relay calls)) (channelAt (relay calls) c)
+  at-channel calls = channel-is settings calls (relay calls) (is calls)
+
+  some-loss : 0 < settings .lengths .loss
+  some-loss = omega (arith, ok .lossLength)
+
+  some-over : 0 < settings .lengths .over
+  some-over = omega (arith, ok .overLength)
+
   relay-clause : (calls : List Call) → RelayIs theRelay settings calls
   relay-clause calls =
       let v : Is settings calls (relay calls) = is calls in
@@ -67,8 +78,8 @@ module _ (settings : Settings) (ok : AcceptedSettings settings) where
             ∙ ap (min settled) (since-same (bit6In first) (deviceBit calls) (acceptedFrames calls) bits);
         slot = clock .placed ∙ ap (λ (n : ℕ). n % 8) (frames-same 0 calls);
         samples = λ c h. v .channel c h .samples ∙ ap (windowOf (channelHistory c calls)) (frames-same c calls);
-        lossLatch = λ c h. loss-rule _ _ (omega arith) (omega arith) _ (v .channel c h);
-        overLatch = λ c h. over-rule _ _ (omega arith) (omega arith) _ (v .channel c h);
+        lossLatch = λ c h. loss-rule _ _ some-loss some-over _ (at-channel calls c h);
+        overLatch = λ c h. over-rule _ _ some-loss some-over _ (at-channel calls c h);
         held = v .held;
       }
 
@@ -95,9 +106,10 @@ module _ (settings : Settings) (ok : AcceptedSettings settings) where
     next c = nextOf (relay past) (codes .list) enable c
 
     next-is : (c : ℕ) → c < 6
-        → ChannelIs loss over (madeWith settings c) (channelHistory c calls) (clockOf (answer .relay)) (next c)
+        → ChannelIs (loss (settings .lengths)) (over (settings .lengths)) (madeWith settings c) (channelHistory c calls) (clockOf (answer .relay)) (next c)
     next-is c h =
-        rw (frame-channel (relay past) (codes .list) enable c h) at (frame-is settings past (relay past) codes enable taken (is past) .channel c h)
+        rw (frame-channel (relay past) (codes .list) enable c h) at
+        (channel-is settings calls (answer .relay) (frame-is settings past (relay past) codes enable taken (is past)) c h)
 
     window-is : (c : ℕ) → c < 6
         → windowAfter (relay past .slot) (getD (codes .list) c 0) (channelAt (relay past) c) ≡ windowAt (channelHistory c calls) (acceptedFrames past)
@@ -117,8 +129,8 @@ module _ (settings : Settings) (ok : AcceptedSettings settings) where
     unfolding acceptedFrame outputIn
     output-is c h =
         rw (input-is c, bit-bits 6 bits c h)
-        (output-rule (next c .«loss_latch») (next c .«over_latch») (enabledIn enable c) (loss-rule _ _ (omega arith) (omega arith) _ (next-is c h))
-        (over-rule _ _ (omega arith) (omega arith) _ (next-is c h)))
+        (output-rule (next c .«loss_latch») (next c .«over_latch») (enabledIn enable c) (loss-rule _ _ some-loss some-over _ (next-is c h))
+        (over-rule _ _ some-loss some-over _ (next-is c h)))
 
     -- the clauses on Z
     sound : (c : ℕ) → c < 6 → (n : ℕ) → windowSound (windowAt (channelHistory c past ▷ sampled (input c)) n) ≡ true
@@ -126,10 +138,10 @@ module _ (settings : Settings) (ok : AcceptedSettings settings) where
 
     -- before the frame, and after it
     old-loss : (c : ℕ) → c < 6 → T (lossAfter theRelay settings past c) ↔ LossOn settings c past
-    old-loss c h = loss-rule _ _ (omega arith) (omega arith) _ (is past .channel c h)
+    old-loss c h = loss-rule _ _ some-loss some-over _ (at-channel past c h)
 
     old-over : (c : ℕ) → c < 6 → T (overAfter theRelay settings past c) ↔ OverOn settings c past
-    old-over c h = over-rule _ _ (omega arith) (omega arith) _ (is past .channel c h)
+    old-over c h = over-rule _ _ some-loss some-over _ (at-channel past c h)
 
     -- the levels in frame n
     abbrev levels : ℕ → ℕ → ChannelLevels
@@ -143,11 +155,11 @@ module _ (settings : Settings) (ok : AcceptedSettings settings) where
     loss-margins : (c : ℕ) → c < 6 → LossMargins settings c calls (lossAfter theRelay settings past c) (lossAfter theRelay settings calls c)
     loss-margins c h =
         rw (history c)
-        (margins lossOf (madeWith settings c) (channelHistory c past) (input c) (omega arith) (λ l. SurelyBelowDrop (l .drop))
+        (margins (lossOf (settings .lengths)) (madeWith settings c) (channelHistory c past) (input c) some-loss (λ l. SurelyBelowDrop (l .drop))
         (λ l. PossiblyBelowDrop (l .drop))
         (λ n z. lt→ltb _ (levels c n .drop) (loss-clear 1 (lit≤ tt) (lit≤ tt) _ (sound c h n) (levels c n .drop) z))
         (λ n t. loss-near 1 (lit≤ tt) (lit≤ tt) _ (sound c h n) (levels c n .drop) (ltb→lt _ (levels c n .drop) t))
-        (old-loss c h) (rw (history c) at (loss-rule _ _ (omega arith) (omega arith) _ (is calls .channel c h))))
+        (old-loss c h) (rw (history c) at (loss-rule _ _ some-loss some-over _ (at-channel calls c h))))
 
     over-margins : (c : ℕ) → 3 ≤ c → c < 6 → OverMargins settings c calls (overAfter theRelay settings past c) (overAfter theRelay settings calls c)
     over-margins c current h =
@@ -155,14 +167,14 @@ module _ (settings : Settings) (ok : AcceptedSettings settings) where
         let pickup : ℕ → ℕ = λ n. levels c n .pickup in
         let r : ℕ → ℕ = λ n. levels c n .restraint in
         rw (history c)
-        (margins overOf (madeWith settings c) (channelHistory c past) (input c) (omega arith) (λ l. SurelyOver (l .pickup) (l .restraint))
+        (margins (overOf (settings .lengths)) (madeWith settings c) (channelHistory c past) (input c) some-over (λ l. SurelyOver (l .pickup) (l .restraint))
         (λ l. PossiblyOver (l .pickup) (l .restraint))
         (λ n z. yes-and (levels c n .current) _ (is-current c current n)
         (yes-and (leb (pickup n) (amplitudeOf 1 (window n))) (harmonicTest (r n) (window n))
         (le→leb (pickup n) _ (over-clear 1 (lit≤ tt) (lit≤ tt) _ (sound c h n) (pickup n) (z .0))) (z .1)))
         (λ n t. let met = and-yes (leb (pickup n) (amplitudeOf 1 (window n))) (harmonicTest (r n) (window n)) (and-yes (levels c n .current) _ t .1) in
         (over-near 1 (lit≤ tt) (lit≤ tt) _ (sound c h n) (pickup n) (leb→le (pickup n) _ (met .0)), met .1))
-        (old-over c h) (rw (history c) at (over-rule _ _ (omega arith) (omega arith) _ (is calls .channel c h))))
+        (old-over c h) (rw (history c) at (over-rule _ _ some-loss some-over _ (at-channel calls c h))))
 
     frame-answered : FrameAnswered theRelay settings past calls (frameOf (relay past) (codes .list) enable)
     unfolding acceptedFrame

@@ -20,12 +20,12 @@ use Rattle.history.specs.Calls.{Codes, Call, frame, reset, refusalOf, ac
 use Rattle.history.specs.History.{Event, frames, FullRun}
 use Rattle.history.specs.Settling.{riseIn, latestBit, sinceRise}
 use Rattle.history.specs.Demand.{relayAfter, RelayIs, AcceptedSettings, Demanded}
-use Rattle.history.specs.WrongRelays.{runOf, kindOf, GoesOn, numberOf, callsOf, Risen}
+use Rattle.history.specs.WrongRelays.{GoesOn, numberOf, callsOf, fullLength, kindIn, madeIn, events, Risen}
 use Rattle.history.proofs.Clock.{bit6In}
 use Rattle.history.proofs.Laws.{relay-says, answer-says}
 use Rattle.history.proofs.Relay.{after-end, frames-frame, frames-reset, device-same, bits-reset, bit-before, bit-last}
 use Rattle.history.proofs.Settling.{rise-same, since-same}
-use Rattle.history.proofs.WentOn.{historyOf, madeOf, frames-are, run-ends, some}
+use Rattle.history.proofs.WentOn.{frames-are, run-ends, some}
 
 -- a full run at the end lies wholly from t + 72 on, where t is a rise
 after-settling : (kind : Kind) (made : ChannelLevels) (es : List Event) (len j t : ℕ) → 0 < len → j + len ≡ frames es → FullRun kind made es len j → t < frames es → T (riseIn (bit6In es) t)
@@ -43,7 +43,7 @@ risen-itself g rise = (le-refl (numberOf g), rise)
 
 module _ (d : Implementation) (meets : Demanded d) where
   -- a latch that goes on after a rise at t has its full run from t + 72 on
-  pub goes-on-late : (g : GoesOn d) (t : ℕ) → Risen g t → t + 72 + runOf (g .latch) ≤ numberOf g + 1
+  pub goes-on-late : (g : GoesOn d) (t : ℕ) → Risen g t → t + 72 + fullLength g ≤ numberOf g + 1
   goes-on-late g t (h, rise) =
       let run = run-ends d meets g in
       let all = frames-are d meets g in
@@ -51,17 +51,17 @@ module _ (d : Implementation) (meets : Demanded d) where
         arith,
         run .1,
         all,
-        after-settling (kindOf (g .latch)) (madeOf d meets g) (historyOf d meets g) (runOf (g .latch)) (run .0) t (some d meets g) (run .1) (run .2) (omega (arith, h, all)) rises,
+        after-settling (kindIn g) (madeIn g) (events g) (fullLength g) (run .0) t (some d meets g) (run .1) (run .2) (omega (arith, h, all)) rises,
       )
     where
-      rises : T (riseIn (bit6In (historyOf d meets g)) t)
+      rises : T (riseIn (bit6In (events g)) t)
       rises =
-          subst T (rise-same (deviceBit (callsOf g)) (bit6In (historyOf d meets g)) t (λ k l. device-same (g .channel) (callsOf g) k)) rise
+          subst T (rise-same (deviceBit (callsOf g)) (bit6In (events g)) t (λ k l. device-same (g .channel) (callsOf g) k)) rise
 
   pub never-settles : (g : GoesOn d) (t : ℕ) → Risen g t → ¬ (numberOf g < t + 72)
   never-settles g t rise h = omega (arith, goes-on-late g t rise, some d meets g)
 
-  pub counts-the-rise : (g : GoesOn d) (t : ℕ) → Risen g t → ¬ (numberOf g + 1 < t + 72 + runOf (g .latch))
+  pub counts-the-rise : (g : GoesOn d) (t : ℕ) → Risen g t → ¬ (numberOf g + 1 < t + 72 + fullLength g)
   counts-the-rise g t rise h = omega (arith, goes-on-late g t rise)
 
   module _ (settings : Settings) (ok : AcceptedSettings settings) (past : List Call) where

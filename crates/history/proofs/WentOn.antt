@@ -8,12 +8,11 @@ use mathlib.Core.List.{List}
 use lib.Dec.{T, leb, leb→le}
 use mir.Facts.{and-yes}
 use Rattle.frames.specs.Bits.{bitOf}
-use Rattle.relay.specs.declared.ChannelLevels.{ChannelLevels}
 use Rattle.relay.specs.declared.Settings.{Settings}
 use Rattle.history.specs.Calls.{Call, Implementation}
 use Rattle.history.specs.History.{Input, Event, inputOf, channelHistory, frames, inputAt, levelsAt, FullRun}
 use Rattle.history.specs.Demand.{madeWith, OverOn, overAfter, AcceptedSettings, Demanded}
-use Rattle.history.specs.WrongRelays.{Latch, lossLatch, overLatch, latchAfter, runOf, kindOf, GoesOn, numberOf, callsOf}
+use Rattle.history.specs.WrongRelays.{Latch, lossLatch, overLatch, latchAfter, lengthOf, kindOf, GoesOn, numberOf, callsOf, fullLength, madeIn, events}
 use Rattle.history.proofs.History.{input-last}
 use Rattle.history.proofs.Laws.{relay-says, loss-near, over-near}
 use Rattle.history.proofs.Relay.{history-frame, frames-frame, frames-same, current-at}
@@ -24,20 +23,16 @@ module _ (d : Implementation) (meets : Demanded d) where
   is-current settings ok calls c h t =
       let on : OverOn settings c calls = relay-says d meets settings ok calls .overLatch c h .0 t in
       leb→le 3 c (subst T (current-at c calls (madeWith settings c) refl (on .0))
-      (and-yes (levelsAt (madeWith settings c) (channelHistory c calls) (on .0) .current) _ (on .1 .meets (on .0) (omega arith) (omega arith)) .0))
+      (and-yes (levelsAt (madeWith settings c) (channelHistory c calls) (on .0) .current) _ (on .1 .meets (on .0) (omega arith) (omega (arith, ok .overLength))) .0))
 
   module _ (g : GoesOn d) where
-    abbrev pub historyOf : List Event
-    historyOf = channelHistory (g .channel) (callsOf g)
-
-    pub frames-are : frames historyOf ≡ suc (numberOf g)
+    pub frames-are : frames (events g) ≡ suc (numberOf g)
     frames-are = frames-same (g .channel) (callsOf g) ∙ frames-frame (g .past) (g .codes) (g .enable) (g .taken)
 
-    abbrev pub madeOf : ChannelLevels
-    madeOf = madeWith (g .settings) (g .channel)
-
     abbrev Ends : Latch → Type 0
-    Ends latch = (j : ℕ) × (j + runOf latch ≡ frames historyOf) × FullRun (kindOf latch) madeOf historyOf (runOf latch) j
+    Ends latch =
+        let len : ℕ = lengthOf latch (g .settings .lengths) in
+        (j : ℕ) × (j + len ≡ frames (events g)) × FullRun (kindOf latch (g .settings .lengths)) (madeIn g) (events g) len j
 
     pub run-ends : Ends (g .latch)
     run-ends = by (g .latch) (g .was) (g .now)
@@ -52,21 +47,21 @@ module _ (d : Implementation) (meets : Demanded d) where
             (is-current (g .settings) (g .accepted) (callsOf g) (g .channel) (g .isChannel) now) (g .isChannel) was now in
             (run .0, run .1, run .2)
 
-    pub some : 0 < runOf (g .latch)
+    pub some : 0 < fullLength g
     some = by (g .latch)
       where
-        by : (latch : Latch) → 0 < runOf latch
-        by lossLatch = omega arith
-        by overLatch = omega arith
+        by : (latch : Latch) → 0 < lengthOf latch (g .settings .lengths)
+        by lossLatch = omega (arith, g .accepted .lossLength)
+        by overLatch = omega (arith, g .accepted .overLength)
 
     pub grows-disabled : T (bitOf (g .enable) (g .channel) && bitOf (g .enable) 6)
     grows-disabled =
         subst (λ (i : Input). T (i .channelBit && i .bit6)) last
         (run-ends .2 .each (numberOf g) (omega (arith, run-ends .1, frames-are, some)) (omega (arith, run-ends .1, frames-are)) .enabled)
       where
-        last : inputAt historyOf (numberOf g) ≡ inputOf (g .channel) (g .codes .list) (g .enable)
+        last : inputAt (events g) (numberOf g) ≡ inputOf (g .channel) (g .codes .list) (g .enable)
         last =
-            ap (inputAt historyOf) (sym (frames-same (g .channel) (g .past)))
+            ap (inputAt (events g)) (sym (frames-same (g .channel) (g .past)))
             ∙ ap (λ (es : List Event). inputAt es (frames (channelHistory (g .channel) (g .past))))
             (history-frame (g .channel) (g .past) (g .codes) (g .enable) (g .taken))
             ∙ input-last (channelHistory (g .channel) (g .past)) (inputOf (g .channel) (g .codes .list) (g .enable))

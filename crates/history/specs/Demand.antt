@@ -1,9 +1,9 @@
 -- Demand 3 of document 01: one claim about every list of frames, resets and changes of levels (document 02, Paper 6),
 -- refused ones among them, from a fresh relay. It is stated for any implementation; `Demanded theRelay` is the theorem.
--- Lengths and tests are said here anew, as levels are in History, from the levels as handed in, with 16, 4, 72, 10,700
--- and 100 as the documents' own numbers and not by the relay's names. Said through the relay's definitions, the demand
--- would be met by a relay that reads another channel's level, or has another limit or length of a run, in definition
--- and code alike. Rests on the history read from the calls and on the exact amplitude.
+-- Tests are said here anew, as levels are in History, from the levels and lengths as handed in, with 72, 10,700, 100
+-- and 24 as the documents' own numbers and not by the relay's names. Said through the relay's definitions, the demand
+-- would be met by a relay that reads another channel's level, or has another limit or the other length of a run, in
+-- definition and code alike. Rests on the history read from the calls and on the exact amplitude.
 use Prim.Native.Nat.{ℕ, _+_, _*_, _%_, _≤_, _<_, min}
 use mathlib.Core.Path.{_≡_}
 use mathlib.Core.Logic.{_⊎_, _↔_}
@@ -16,6 +16,7 @@ use Rattle.frames.specs.Bits.{bitOf}
 use Rattle.phasor.specs.Cordic.{amplitudeOf}
 use Rattle.phasor.specs.Exact.{AtLeast, Below, Within}
 use Rattle.relay.specs.declared.ChannelLevels.{ChannelLevels}
+use Rattle.relay.specs.declared.Lengths.{Lengths}
 use Rattle.relay.specs.declared.Settings.{Settings}
 use Rattle.relay.specs.declared.Relay.{Relay}
 use Rattle.relay.specs.declared.FrameAnswer.{FrameAnswer}
@@ -68,21 +69,23 @@ pub record Margins (kind : Kind) (made : ChannelLevels) (Surely Possibly : Chann
       → (j : ℕ) × (j + kind .len ≡ frames es) × FullRun kind made es (kind .len) j
       × InEach j (kind .len) (λ n. Possibly (levelsAt made es n) (windowAt es n))
 
--- The two kinds of run. "16 (loss)" frames with "m < drop (loss)"; the drop is its own level.
-abbrev pub lossOf : Kind
-lossOf =
+-- The two kinds of run. Document 01's "16 (loss)" and "4 (over)" are the lengths that the relay was made with:
+-- "Wherever a rule on runs says 16 or 4 it means these" (Paper 9).
+-- Frames with "m < drop (loss)"; the drop is the loss run's own level.
+abbrev pub lossOf : Lengths → Kind
+lossOf lengths =
     record {
-      len = 16;
+      len = lengths .loss;
       meets = λ levels w. ltb (amplitudeOf 1 w) (levels .drop);
       same = λ old new. eqb (old .drop) (new .drop);
     }
 
--- "4 (over)" frames with "m ≥ pickup (over)"; "The history adds that test to a full over run" (Paper 8). A voltage's
--- over run never meets its level. Its own level is the pickup, with "r too, as part of the over run's own level".
-abbrev pub overOf : Kind
-overOf =
+-- Frames with "m ≥ pickup (over)"; "The history adds that test to a full over run" (Paper 8). A voltage's over run
+-- never meets its level. Its own level is the pickup, with "r too, as part of the over run's own level".
+abbrev pub overOf : Lengths → Kind
+overOf lengths =
     record {
-      len = 4;
+      len = lengths .over;
       meets = λ levels w.
           levels .current && (leb (levels .pickup) (amplitudeOf 1 w) && harmonicTest (levels .restraint) w);
       same = λ old new. eqb (old .pickup) (new .pickup) && eqb (old .restraint) (new .restraint);
@@ -95,20 +98,20 @@ module _ (settings : Settings) (c : ℕ) where
 
   -- after these calls the rule has the latch on
   abbrev pub LossOn : List Call → Type 0
-  LossOn calls = LatchOn lossOf madeWith (channelHistory c calls)
+  LossOn calls = LatchOn (lossOf (settings .lengths)) madeWith (channelHistory c calls)
 
   abbrev pub OverOn : List Call → Type 0
-  OverOn calls = LatchOn overOf madeWith (channelHistory c calls)
+  OverOn calls = LatchOn (overOf (settings .lengths)) madeWith (channelHistory c calls)
 
   -- the clauses on Z at the last of these calls, a frame
   abbrev pub LossMargins : List Call → Bool → Bool → Type 0
   LossMargins calls =
-      Margins lossOf madeWith (λ levels. SurelyBelowDrop (levels .drop)) (λ levels. PossiblyBelowDrop (levels .drop))
-      (channelHistory c calls)
+      Margins (lossOf (settings .lengths)) madeWith (λ levels. SurelyBelowDrop (levels .drop))
+      (λ levels. PossiblyBelowDrop (levels .drop)) (channelHistory c calls)
 
   abbrev pub OverMargins : List Call → Bool → Bool → Type 0
   OverMargins calls =
-      Margins overOf madeWith (λ levels. SurelyOver (levels .pickup) (levels .restraint))
+      Margins (overOf (settings .lengths)) madeWith (λ levels. SurelyOver (levels .pickup) (levels .restraint))
       (λ levels. PossiblyOver (levels .pickup) (levels .restraint)) (channelHistory c calls)
 
 module _ (d : Implementation) (settings : Settings) where
@@ -138,8 +141,9 @@ module _ (d : Implementation) (settings : Settings) where
     -- "A loss latch, or a current's over latch, is on exactly when .."; a voltage's over latch never is
     pub lossLatch : (c : ℕ) → c < 6 → T (lossAfter calls c) ↔ LossOn settings c calls
     pub overLatch : (c : ℕ) → c < 6 → T (overAfter calls c) ↔ OverOn settings c calls
-    -- the settings that the relay holds are those in force (Paper 6)
-    pub held : relayAfter calls .settings ≡ record { levels = inForce (settings .levels) calls }
+    -- the levels that the relay holds are those in force (Paper 6); its lengths are "fixed when it is made" (Paper 9)
+    pub held : relayAfter calls .settings
+        ≡ record { levels = inForce (settings .levels) calls; lengths = settings .lengths }
 
   -- What an accepted frame after the calls `past` answers. `calls` are these and the frame, which has the number
   -- acceptedFrames past.
@@ -191,14 +195,16 @@ module _ (d : Implementation) (settings : Settings) where
         → CallAnswered past call
 
 -- The settings that the documents accept: "a drop level for each channel and a pickup level for each current, 1 to
--- 10,700"; "a restraint level r, 1 to 100 or 0 for off". A relay that refuses some of them does not meet the demand
--- (`made`).
+-- 10,700"; "a restraint level r, 1 to 100 or 0 for off"; "Loss and over lengths .. 1 to 24". A relay that refuses some
+-- of them does not meet the demand (`made`).
 pub record AcceptedSettings (settings : Settings) : Type 0 where
   pub drops : (c : ℕ) → c < 6
       → (1 ≤ getD (settings .levels .drop) c 0) × (getD (settings .levels .drop) c 0 ≤ 10700)
   pub pickups : (k : ℕ) → k < 3
       → (1 ≤ getD (settings .levels .pickup) k 0) × (getD (settings .levels .pickup) k 0 ≤ 10700)
   pub restraints : (k : ℕ) → k < 3 → getD (settings .levels .restraint) k 0 ≤ 100
+  pub lossLength : (1 ≤ settings .lengths .loss) × (settings .lengths .loss ≤ 24)
+  pub overLength : (1 ≤ settings .lengths .over) × (settings .lengths .over ≤ 24)
 
 -- Demand 3: "from a fresh relay made with accepted settings", every list, "the empty one too"; that making the relay
 -- accepts them is part of it. The code's arrays hold six drops, three pickups and three restraints, and its bytes are

@@ -3,6 +3,7 @@
 // for each change. The second implementation gives the same text, which the gate compares.
 use libc::STDOUT_FILENO;
 use relay::Channel;
+use relay::Lengths;
 use relay::Levels;
 use relay::Relay;
 use relay::Settings;
@@ -18,6 +19,9 @@ const ALL_ENABLED: u8 = 127;
 
 // Frames before this one are not counted, and change no run.
 const FIRST_COUNTED: u16 = 72;
+
+// The frames of full runs: those of the bench program.
+const BENCH_LENGTHS: Lengths = Lengths { loss: 16, over: 4 };
 
 // A byte as text.
 fn show_byte(byte: u8) {
@@ -106,7 +110,10 @@ fn base() -> Levels {
 // A scene: its name, and its relay after the frames before `end`.
 fn begin(name: &[u8], wave: [u16; 8], end: u16) -> Relay {
     io::write_all(STDOUT_FILENO, name);
-    let made = Relay::fresh(Settings { levels: base() });
+    let made = Relay::fresh(Settings {
+        levels: base(),
+        lengths: BENCH_LENGTHS,
+    });
     play(made.relay, wave, 0, end)
 }
 

@@ -23,6 +23,8 @@ pub record Rows : Type 0 where
   -- Paper 8
   pub estimate : refusals.badEstimate ≡ 19
   pub restraint : refusals.badRestraint ≡ 20
+  -- Paper 9
+  pub length : refusals.badLength ≡ 21
 
 pub rows : Rows
 rows =
@@ -40,11 +42,12 @@ rows =
       few = refl;
       estimate = refl;
       restraint = refl;
+      length = refl;
     }
 
 -- the numbers of the refusals
 abbrev all : List ℕ
-all = 1 ∷ 2 ∷ 3 ∷ 4 ∷ 5 ∷ 6 ∷ 7 ∷ 8 ∷ 9 ∷ 10 ∷ 11 ∷ 12 ∷ 13 ∷ 19 ∷ 20 ∷ []
+all = 1 ∷ 2 ∷ 3 ∷ 4 ∷ 5 ∷ 6 ∷ 7 ∷ 8 ∷ 9 ∷ 10 ∷ 11 ∷ 12 ∷ 13 ∷ 19 ∷ 20 ∷ 21 ∷ []
 
 -- "first check that fails": none, one, each order of two, the last of three, and each number alone; an outcome accepted and refused, with room to
 -- spare.

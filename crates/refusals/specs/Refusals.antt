@@ -54,6 +54,10 @@ badEstimate = 19
 abbrev pub badRestraint : ℕ  -- "20 for r above 100"
 badRestraint = 20
 
+-- Document 02, Paper 9.
+abbrev pub badLength : ℕ  -- "21, and not 1, for a length outside 1 to 24"
+badLength = 21
+
 -- A check: what must hold, and the number of the refusal where it does not.
 infix 20 _orElse_
 pub data Check : Type 0 where

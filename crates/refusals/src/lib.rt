@@ -51,6 +51,9 @@ pub const BAD_ESTIMATE: u8 = 19;
 // A restraint level above 100 (Paper 8).
 pub const BAD_RESTRAINT: u8 = 20;
 
+// A run length outside 1 to 24 (Paper 9).
+pub const BAD_LENGTH: u8 = 21;
+
 // What a call that was lent a buffer answers: the number of its refusal, 0 where it is accepted, and how many frames or
 // bytes it made.
 #[repr(C)]

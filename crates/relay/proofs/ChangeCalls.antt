@@ -17,7 +17,7 @@ use Rattle.lists.specs.Each.{table}
 use Rattle.relay.specs.Settings.{levelsOf, loss, over}
 use Rattle.relay.specs.Relay.{channelAt, freshOf, frameOf, resetOf, changeOf}
 use Rattle.relay.proofs.Computed.{computed}
-use Rattle.relay.proofs.Examples.{allZero}
+use Rattle.relay.proofs.Examples.{bench, settingsOf, allZero}
 
 -- ---- levels
 
@@ -88,7 +88,7 @@ channels losses lossLatches overs overLatches =
 
 abbrev relay : Bool → ℕ → ℕ → List Channel → Levels → Relay
 relay on age slot channels levels =
-    record { channels = channels; age = age; slot = slot; «device_on» = on; settings = record { levels = levels } }
+    record { channels = channels; age = age; slot = slot; «device_on» = on; settings = settingsOf levels }
 
 abbrev answer : ℕ → Relay → ChangeAnswer
 answer refusal r = record { relay = r; refusal = refusal }
@@ -348,12 +348,12 @@ pub record ChangeCalls : Type 0 where
   pub restraint-ends : restraintsFrom 0 1 ∷ restraintsFrom 1 0 ∷ restraintsFrom 0 100 ∷ restraintsFrom 100 0 ∷ []
       ≡ restraintsMoved 1 ∷ restraintsMoved 0 ∷ restraintsMoved 100 ∷ restraintsMoved 0 ∷ []
   -- the own level of each kind: drop; pickup and r. A voltage's over run has none that could move.
-  pub own-loss : map (loss .same (own 50 60 70)) (own 50 61 71 ∷ own 51 60 70 ∷ own 49 60 70 ∷ own 60 50 70 ∷ [])
+  pub own-loss : map (loss bench .same (own 50 60 70)) (own 50 61 71 ∷ own 51 60 70 ∷ own 49 60 70 ∷ own 60 50 70 ∷ [])
       ≡ true ∷ false ∷ false ∷ false ∷ []
-  pub own-over : map (over .same (own 50 60 70))
+  pub own-over : map (over bench .same (own 50 60 70))
       (own 51 60 70 ∷ own 50 61 70 ∷ own 50 59 70 ∷ own 50 60 71 ∷ own 50 60 69 ∷ own 50 70 60 ∷ own 50 61 71 ∷ [])
       ≡ true ∷ replicate 6 false
-  pub own-voltages : table 6 (λ c. over .same (levelsOf old c) (levelsOf new c))
+  pub own-voltages : table 6 (λ c. over bench .same (levelsOf old c) (levelsOf new c))
       ≡ true ∷ true ∷ true ∷ false ∷ false ∷ false ∷ []
   -- each run, latches off and on: kept; the loss run alone cleared; the over run alone; both
   pub each-run : table 17 (λ n. changeOf (alike n (n % 5) false old) old)
@@ -399,8 +399,8 @@ pub record ChangeCalls : Type 0 where
       ∷ one (set losses1 2 0) overs1 old
       ∷ one losses1 (set overs1 1 0) old ∷ []
   -- a fresh relay under new levels is a fresh relay of these
-  pub fresh : changeOf (freshOf (record { levels = old }) .relay) new
-      ≡ answer 0 (freshOf (record { levels = new }) .relay)
+  pub fresh : changeOf (freshOf (settingsOf old) .relay) new
+      ≡ answer 0 (freshOf (settingsOf new) .relay)
   -- Over runs of 3, then moved levels. 3: raised above m, the run is 0 and stays so. 4: moved and met, four more frames
   -- to the latch. 5: only its drop moved, so the next frame has 4 and the latch. Then 3 meets m = pickup again, from 1
   -- on; a new r clears a full run of 4 and leaves its latch; a reset names 4 alone.

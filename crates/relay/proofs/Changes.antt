@@ -15,15 +15,16 @@ use Rattle.lists.proofs.Each.{and-true, and-left, and-right, getD-table, length
 use Rattle.phasor.specs.Window.{windowSound}
 use Rattle.relay.specs.declared.Channel.{Channel}
 use Rattle.relay.specs.declared.ChannelLevels.{ChannelLevels}
+use Rattle.relay.specs.declared.Lengths.{Lengths}
 use Rattle.relay.specs.declared.Levels.{Levels}
 use Rattle.relay.specs.declared.Relay.{Relay}
 use Rattle.relay.specs.declared.ChangeAnswer.{ChangeAnswer}
-use Rattle.relay.specs.Settings.{isCurrent, nineSound, restraintsSound, levelsOf, lossFrames, overFrames, loss, over}
+use Rattle.relay.specs.Settings.{isCurrent, nineSound, restraintsSound, levelsOf, sameDrop, samePickup}
 use Rattle.relay.specs.Channel.{noChannel, carriedOver}
 use Rattle.relay.specs.Sound.{overSound, channelSound, soundOf}
 use Rattle.relay.specs.Relay.{channelAt, levelRefusal, changedChannel, acceptedChange, refusedChange, changeRefusal, changeOf}
-use Rattle.relay.proofs.Sound.{Sound, sound-says, says-sound}
-use Rattle.relay.proofs.Laws.{two-checks}
+use Rattle.relay.proofs.Sound.{Sound, sound-says, says-sound, passed}
+use Rattle.relay.proofs.Laws.{SettingsSay, settings-say}
 
 -- ---- what a change's answer is: 2 on a relay that is not sound, whatever the levels; on a sound one the levels alone decide
 
@@ -49,7 +50,8 @@ pub change-left : (r : Relay) (new : Levels) → ¬ (changeRefusal r new ≡ 0) 
 unfolding changeOf refusedChange
 change-left r new e = rw (ne-eqb (changeRefusal r new) 0 e)
 
-pub change-levels : (r : Relay) (new : Levels) → soundOf r ≡ true → levelRefusal new ≡ 0 → changeOf r new .relay .settings ≡ record { levels = new }
+pub change-levels : (r : Relay) (new : Levels) → soundOf r ≡ true → levelRefusal new ≡ 0
+    → changeOf r new .relay .settings ≡ record { levels = new; lengths = r .settings .lengths }
 unfolding acceptedChange
 change-levels r new s e = rw (change-accepted r new s e)
 
@@ -60,21 +62,22 @@ carried-le true run len h = h
 carried-le false run len h = omega arith
 
 -- new levels leave a sound channel sound
-carried-sound : (current : Bool) (old new : ChannelLevels) (ch : Channel) → channelSound current ch ≡ true
-    → channelSound current (carriedOver old new ch) ≡ true
+carried-sound : (lengths : Lengths) (current : Bool) (old new : ChannelLevels) (ch : Channel) → channelSound lengths current ch ≡ true
+    → channelSound lengths current (carriedOver old new ch) ≡ true
 unfolding channelSound
-carried-sound current old new ch s =
+carried-sound lengths current old new ch s =
     let w : Bool = windowSound (ch .samples) in
-    let l : Bool = leb (ch .«loss_run») lossFrames in
-    let two : w && l ≡ true = and-left (w && l) (overSound current ch) s in
+    let len : ℕ = lengths .loss in
+    let l : Bool = leb (ch .«loss_run») len in
+    let two : w && l ≡ true = and-left (w && l) (overSound (lengths .over) current ch) s in
     and-true _ _
     (and-true _ _ (and-left w l two)
-    (le-leb _ lossFrames (carried-le (loss .same old new) (ch .«loss_run») lossFrames (leb-true (ch .«loss_run») lossFrames (and-right w l two)))))
-    (by current (over .same old new) (and-right (w && l) (overSound current ch) s))
+    (le-leb _ len (carried-le (sameDrop old new) (ch .«loss_run») len (leb-true (ch .«loss_run») len (and-right w l two)))))
+    (by current (samePickup old new) (and-right (w && l) (overSound (lengths .over) current ch) s))
   where
-    by : (b same : Bool) → cond b (leb (ch .«over_run») overFrames) (eqb (ch .«over_run») 0 && not (ch .«over_latch»)) ≡ true
-        → cond b (leb (cond same (ch .«over_run») 0) overFrames) (eqb (cond same (ch .«over_run») 0) 0 && not (ch .«over_latch»)) ≡ true
-    by true same t = le-leb _ overFrames (carried-le same (ch .«over_run») overFrames (leb-true (ch .«over_run») overFrames t))
+    by : (b same : Bool) → cond b (leb (ch .«over_run») (lengths .over)) (eqb (ch .«over_run») 0 && not (ch .«over_latch»)) ≡ true
+        → cond b (leb (cond same (ch .«over_run») 0) (lengths .over)) (eqb (cond same (ch .«over_run») 0) 0 && not (ch .«over_latch»)) ≡ true
+    by true same t = le-leb _ (lengths .over) (carried-le same (ch .«over_run») (lengths .over) (leb-true (ch .«over_run») (lengths .over) t))
     by false true t = t
     by false false t = and-right (eqb (ch .«over_run») 0) (not (ch .«over_latch»)) t
 
@@ -85,11 +88,13 @@ change-sound r new s e = says-sound (acceptedChange r new .relay) (next (sound-s
     next : Sound r → Sound (acceptedChange r new .relay)
     next was =
         record {
-          settings = two-checks (nineSound new) (restraintsSound (new .restraint)) e;
+          settings = let nine = passed (nineSound new) 0 e in
+              and-true _ _ (and-true _ _ (nine .0) (passed (restraintsSound (new .restraint)) 19 (nine .1) .0))
+              (settings-say (r .settings) (was .settings) .lengths);
           age = was .age;
           slot = was .slot;
           channel = λ c l. rw (change-channel r new c l)
-              (carried-sound (isCurrent c) (levelsOf (r .settings .levels) c) (levelsOf new c) (channelAt r c) (was .channel c l));
+              (carried-sound (r .settings .lengths) (isCurrent c) (levelsOf (r .settings .levels) c) (levelsOf new c) (channelAt r c) (was .channel c l));
         }
 
 -- ---- "Windows, slot, age, latches and the remembered bit 6 carry over.": of every relay and all levels, accepted or refused
@@ -182,11 +187,7 @@ same-channel levels ch =
 own-accepted : (r : Relay) → soundOf r ≡ true → levelRefusal (r .settings .levels) ≡ 0
 unfolding levelRefusal
 own-accepted r s =
-    let l : Levels = r .settings .levels in
-    rw (
-      and-left (nineSound l) (restraintsSound (l .restraint)) (sound-says r s .settings),
-      and-right (nineSound l) (restraintsSound (l .restraint)) (sound-says r s .settings),
-    )
+    let say : SettingsSay (r .settings) = settings-say (r .settings) (sound-says r s .settings) in rw (say .nine, say .restraints)
 
 pub change-nothing : (s : SoundRelay) → changeOf (s .relay) (s .relay .settings .levels) ≡ record { relay = s .relay; refusal = 0 }
 unfolding acceptedChange changedChannel

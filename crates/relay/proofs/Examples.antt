@@ -9,6 +9,8 @@ use lib.Dec.{leb, eqb}
 use lib.ListN.{replicate}
 use Rattle.relay.specs.declared.Channel.{Channel}
 use Rattle.relay.specs.declared.ChannelLevels.{ChannelLevels}
+use Rattle.relay.specs.declared.Lengths.{Lengths}
+use Rattle.relay.specs.declared.Levels.{Levels}
 use Rattle.relay.specs.declared.Settings.{Settings}
 use Rattle.relay.specs.declared.Relay.{Relay}
 use Rattle.relay.specs.declared.FrameAnswer.{FrameAnswer}
@@ -39,13 +41,20 @@ outputs r (codes ∷ more) =
 
 -- ---- one call on a relay that is handed in
 
+-- "the bench program and the bench figures keep 16 and 4" (document 02, Paper 9); other lengths are in LengthCalls
+abbrev pub bench : Lengths
+bench = record { loss = 16; over = 4 }
+
+abbrev pub settingsOf : Levels → Settings
+settingsOf l = record { levels = l; lengths = bench }
+
 -- equal drop levels and equal pickup levels
 abbrev pub equalLevels : ℕ → ℕ → Settings
-equalLevels drop pickup = record { levels = record { drop = replicate 6 drop; pickup = replicate 3 pickup; restraint = replicate 3 0 } }
+equalLevels drop pickup = settingsOf (record { drop = replicate 6 drop; pickup = replicate 3 pickup; restraint = replicate 3 0 })
 
 -- nine levels and three restraints, no two of them equal
 abbrev nine : Settings
-nine = record { levels = record { drop = 1 ∷ 2 ∷ 3 ∷ 4 ∷ 5 ∷ 6 ∷ []; pickup = 7 ∷ 8 ∷ 9 ∷ []; restraint = 10 ∷ 11 ∷ 12 ∷ [] } }
+nine = settingsOf (record { drop = 1 ∷ 2 ∷ 3 ∷ 4 ∷ 5 ∷ 6 ∷ []; pickup = 7 ∷ 8 ∷ 9 ∷ []; restraint = 10 ∷ 11 ∷ 12 ∷ [] })
 
 -- the levels of one channel
 abbrev own : ℕ → ℕ → ℕ → Bool → ChannelLevels
@@ -69,7 +78,14 @@ deviceOff r = record { channels = r .channels; age = r .age; slot = r .slot; «d
 
 -- "all-zero": it remembers bit 6 as off
 abbrev pub allZero : Relay
-allZero = record { channels = still; age = 0; slot = 0; «device_on» = false; settings = equalLevels 0 0 }
+allZero =
+    record {
+      channels = still;
+      age = 0;
+      slot = 0;
+      «device_on» = false;
+      settings = record { levels = equalLevels 0 0 .levels; lengths = record { loss = 0; over = 0 } };
+    }
 
 -- a frame of codes 512 that is accepted: the amplitudes are 0
 abbrev acceptedAnswer : Relay → ℕ → FrameAnswer
@@ -191,7 +207,7 @@ latched r = bitsBelow 6 (λ c. channelAt r c .«loss_latch»)
 pub record Examples : Type 0 where
   -- "That wave steady on channel 3 from frame 0, pickup 1603: over latch in frame 75. Pickup 1604: never."
   -- "Code 512 throughout, drop 1: loss latches in frame 87; in frame 86 none." Channel 4 has the wave and pickup 1604; 0, 1, 2 and 5 have code 512.
-  figures : outputs (freshOf (record { levels = record { drop = replicate 6 1; pickup = 1603 ∷ 1604 ∷ 1604 ∷ []; restraint = replicate 3 0 } }) .relay) (waves 11)
+  figures : outputs (freshOf (settingsOf (record { drop = replicate 6 1; pickup = 1603 ∷ 1604 ∷ 1604 ∷ []; restraint = replicate 3 0 })) .relay) (waves 11)
       ≡ replicate 75 0 ++ replicate 12 8 ++ (47 ∷ [])
   -- a fresh relay, at the ends of "1 to 10,700"; refusal 1 with the all-zero relay
   fresh : freshOf (equalLevels 1 10700)
@@ -205,16 +221,16 @@ pub record Examples : Type 0 where
       age = 0;
       slot = 0;
       «device_on» = true;
-      settings = record { levels = record { drop = 1 ∷ 2 ∷ 3 ∷ 4 ∷ 5 ∷ 6 ∷ []; pickup = 7 ∷ 8 ∷ 9 ∷ []; restraint = 10 ∷ 11 ∷ 12 ∷ [] } };
+      settings = settingsOf (record { drop = 1 ∷ 2 ∷ 3 ∷ 4 ∷ 5 ∷ 6 ∷ []; pickup = 7 ∷ 8 ∷ 9 ∷ []; restraint = 10 ∷ 11 ∷ 12 ∷ [] });
     };
     refusal = 0;
   }
   -- whichever level is out of range, and however
-  drop-low : freshOf (record { levels = record { drop = 0 ∷ replicate 5 1; pickup = replicate 3 1; restraint = replicate 3 0 } })
+  drop-low : freshOf (settingsOf (record { drop = 0 ∷ replicate 5 1; pickup = replicate 3 1; restraint = replicate 3 0 }))
       ≡ record { relay = allZero; refusal = 1 }
-  drop-high : freshOf (record { levels = record { drop = 10701 ∷ replicate 5 1; pickup = replicate 3 1; restraint = replicate 3 0 } })
+  drop-high : freshOf (settingsOf (record { drop = 10701 ∷ replicate 5 1; pickup = replicate 3 1; restraint = replicate 3 0 }))
       ≡ record { relay = allZero; refusal = 1 }
-  pickup-low : freshOf (record { levels = record { drop = replicate 6 819; pickup = 3413 ∷ 3413 ∷ 0 ∷ []; restraint = replicate 3 0 } })
+  pickup-low : freshOf (settingsOf (record { drop = replicate 6 819; pickup = 3413 ∷ 3413 ∷ 0 ∷ []; restraint = replicate 3 0 }))
       ≡ record { relay = allZero; refusal = 1 }
   -- "a drop level for each channel and a pickup level for each current": each channel has its own
   own-levels : table 6 (levelsOf (nine .levels))

@@ -20,27 +20,22 @@ use Rattle.frames.proofs.Ranges.{codes-below}
 use Rattle.frames.proofs.Samples.{sample-is-sound}
 use Rattle.relay.specs.declared.Channel.{Channel}
 use Rattle.relay.specs.declared.ChannelLevels.{ChannelLevels}
+use Rattle.relay.specs.declared.Lengths.{Lengths}
 use Rattle.relay.specs.declared.Settings.{Settings}
 use Rattle.relay.specs.declared.Relay.{Relay}
 use Rattle.relay.specs.declared.FreshAnswer.{FreshAnswer}
 use Rattle.frames.specs.Bits.{bitOf, enabledIn}
-use Rattle.relay.specs.Settings.{isCurrent, nineSound, restraintsSound, settingsSound, levelsOf, unrestrainedBy}
-use Rattle.relay.specs.Settings.{lossFrames, overFrames, settled, loss}
+use Rattle.relay.specs.Settings.{isCurrent, nineSound, restraintsSound, lengthInRange, lengthsSound, settingsSound, levelsOf, unrestrainedBy}
+use Rattle.relay.specs.Settings.{mostLength, settled, loss}
 use Rattle.relay.specs.Channel.{noChannel, freshChannel, clearedOf, windowAfter, runAfter, nextRun, channelAfter}
-use Rattle.relay.proofs.Sound.{Sound, sound-says, says-sound}
+use Rattle.relay.proofs.Sound.{Sound, sound-says, says-sound, passed}
 use Rattle.relay.specs.Sound.{overSound, channelSound, channelsSound, soundOf}
-use Rattle.relay.specs.Relay.{channelAt, unusedRelay, freshRelay, zeroRelay, levelRefusal, freshRefusal, freshOf}
+use Rattle.relay.specs.Relay.{channelAt, unusedRelay, freshRelay, zeroRelay, freshRefusal, freshOf}
 use Rattle.relay.specs.Relay.{foundBy, ageFound, counted, ageAfter, slotAfter}
 use Rattle.relay.specs.Relay.{nextChannel, acceptedFrame, refusedFrame, inputRefusal, frameRefusal, frameOf}
 use Rattle.relay.specs.Relay.{resetChannel, acceptedReset, refusedReset, maskRefusal, resetRefusal, resetOf}
 
 -- ---- what a call's answer is
-
--- settings that are accepted are in range, and the answer is the fresh relay
-pub two-checks : (a b : Bool) → _≡_ {A = ℕ} (cond a (cond b 0 20) 1) 0 → a && b ≡ true
-two-checks true true e = refl
-two-checks true false e = absurd (omega arith)
-two-checks false b e = absurd (omega arith)
 
 -- an answer is that of an accepted call only where the refusal is 0
 not-refused : (r s : Relay) (n : ℕ)
@@ -52,14 +47,45 @@ not-refused r s n e = by (eqb n 0) refl e
     by true q e = eqb-true n 0 q
     by false q e = e
 
+-- settings that are accepted are in range, and the answer is the fresh relay
 pub fresh-accepted : (s : Settings) → freshOf s .refusal ≡ accepted → settingsSound s ≡ true
-unfolding freshOf levelRefusal
+unfolding freshOf freshRefusal
 fresh-accepted s e =
-    two-checks (nineSound (s .levels)) (restraintsSound (s .levels .restraint)) (not-refused (freshRelay s) zeroRelay (freshRefusal s) e)
+    let nine = passed (nineSound (s .levels)) 0 (not-refused (freshRelay s) zeroRelay (freshRefusal s) e) in
+    let restraints = passed (restraintsSound (s .levels .restraint)) 19 (nine .1) in
+    and-true _ _ (and-true _ _ (nine .0) (restraints .0)) (passed (lengthsSound (s .lengths)) 20 (restraints .1) .0)
+
+-- lengths in range, spelled out
+pub lengths-say : (l : Lengths) → lengthsSound l ≡ true → ((1 ≤ l .loss) × (l .loss ≤ 24)) × ((1 ≤ l .over) × (l .over ≤ 24))
+unfolding lengthsSound
+lengths-say l e = (
+  in-range (l .loss) (and-left (lengthInRange (l .loss)) (lengthInRange (l .over)) e),
+  in-range (l .over) (and-right (lengthInRange (l .loss)) (lengthInRange (l .over)) e),
+)
+  where
+    in-range : (len : ℕ) → lengthInRange len ≡ true → (1 ≤ len) × (len ≤ 24)
+    in-range len q = (leb-true 1 len (and-left (leb 1 len) (leb len mostLength) q), leb-true len mostLength (and-right (leb 1 len) (leb len mostLength) q))
+
+-- what settings in range say of their parts
+pub record SettingsSay (s : Settings) : Type 0 where
+  pub nine : nineSound (s .levels) ≡ true
+  pub restraints : restraintsSound (s .levels .restraint) ≡ true
+  pub lengths : lengthsSound (s .lengths) ≡ true
+
+pub settings-say : (s : Settings) → settingsSound s ≡ true → SettingsSay s
+settings-say s e =
+    let nine : Bool = nineSound (s .levels) in
+    let restraints : Bool = restraintsSound (s .levels .restraint) in
+    let two : nine && restraints ≡ true = and-left (nine && restraints) (lengthsSound (s .lengths)) e in
+    record {
+      nine = and-left nine restraints two;
+      restraints = and-right nine restraints two;
+      lengths = and-right (nine && restraints) (lengthsSound (s .lengths)) e;
+    }
 
 pub fresh-is : (s : Settings) → settingsSound s ≡ true → freshOf s ≡ record { relay = freshRelay s; refusal = accepted }
-unfolding freshOf levelRefusal
-fresh-is s e = rw (and-left (nineSound (s .levels)) (restraintsSound (s .levels .restraint)) e, and-right (nineSound (s .levels)) (restraintsSound (s .levels .restraint)) e)
+unfolding freshOf freshRefusal
+fresh-is s e = let say : SettingsSay s = settings-say s e in rw (say .nine, say .restraints, say .lengths)
 
 -- of every relay: a frame with no refusal is what an accepted one is, and any other hands the relay back as it was given
 pub frame-taken : (r : Relay) (codes : List ℕ) (enable : ℕ) → frameRefusal r codes enable ≡ 0 → frameOf r codes enable ≡ acceptedFrame r codes enable
@@ -125,50 +151,56 @@ run-le len run true true h = omega arith
 run-le len run true false h = omega arith
 run-le len run false feeds h = h
 
-run-none : (run : ℕ) (counted enabled : Bool) → run ≡ 0 → runAfter counted (enabled && false) overFrames run ≡ 0
-run-none run true true h = refl
-run-none run true false h = refl
-run-none run false enabled h = h
+run-none : (len run : ℕ) (counted enabled : Bool) → run ≡ 0 → runAfter counted (enabled && false) len run ≡ 0
+run-none len run true true h = refl
+run-none len run true false h = refl
+run-none len run false enabled h = h
 
 -- the over run and latch after a frame: a current's run stays within its length, a voltage's stay 0 and off
-over-sound : (current m counted enabled latch : Bool) (run next : ℕ) → next ≡ runAfter counted (enabled && (current && m)) overFrames run
-    → cond current (leb run overFrames) (eqb run 0 && not latch) ≡ true
-    → cond current (leb next overFrames) (eqb next 0 && not (latch || eqb next overFrames)) ≡ true
-over-sound true m counted enabled latch run next e s =
-    le-leb next overFrames (rw e (run-le overFrames run counted (enabled && m) (leb-true run overFrames s)))
-over-sound false m counted enabled true run next e s = absurd (false≢true (and-right (eqb run 0) false s))
-over-sound false m counted enabled false run next e s = rw (e ∙ run-none run counted enabled (eqb-true run 0 (and-left (eqb run 0) true s)))
+over-sound : (len : ℕ) → 1 ≤ len → (current m counted enabled latch : Bool) (run next : ℕ)
+    → next ≡ runAfter counted (enabled && (current && m)) len run
+    → cond current (leb run len) (eqb run 0 && not latch) ≡ true
+    → cond current (leb next len) (eqb next 0 && not (latch || eqb next len)) ≡ true
+over-sound len some true m counted enabled latch run next e s =
+    le-leb next len (rw e (run-le len run counted (enabled && m) (leb-true run len s)))
+over-sound len some false m counted enabled true run next e s = absurd (false≢true (and-right (eqb run 0) false s))
+over-sound len some false m counted enabled false run next e s =
+    rw (e ∙ run-none len run counted enabled (eqb-true run 0 (and-left (eqb run 0) true s)), ne-eqb 0 len (omega arith))
 
 -- a frame leaves a sound channel sound
-channel-sound : (levels : ChannelLevels) (slot : ℕ) (counted enabled : Bool) (code : ℕ) (ch : Channel) → code < codeLimit
-    → channelSound (levels .current) ch ≡ true → channelSound (levels .current) (channelAfter levels slot counted enabled code ch) ≡ true
+channel-sound : (lengths : Lengths) → 1 ≤ lengths .over → (levels : ChannelLevels) (slot : ℕ) (counted enabled : Bool) (code : ℕ) (ch : Channel)
+    → code < codeLimit → channelSound lengths (levels .current) ch ≡ true
+    → channelSound lengths (levels .current) (channelAfter lengths levels slot counted enabled code ch) ≡ true
 unfolding channelSound channelAfter nextRun
-channel-sound levels slot counted enabled code ch h s =
+channel-sound lengths some levels slot counted enabled code ch h s =
+    let len : ℕ = lengths .loss in
     let window : List ℤ = windowAfter slot code ch in
     let samples = windowSound (ch .samples) in
-    let two : samples && leb (ch .«loss_run») lossFrames ≡ true = and-left _ (overSound (levels .current) ch) s in
-    let loss-run : ch .«loss_run» ≤ lossFrames = leb-true _ lossFrames (and-right samples _ two) in
-    let over : overSound (levels .current) ch ≡ true = and-right (samples && leb (ch .«loss_run») lossFrames) _ s in
+    let two : samples && leb (ch .«loss_run») len ≡ true = and-left _ (overSound (lengths .over) (levels .current) ch) s in
+    let loss-run : ch .«loss_run» ≤ len = leb-true _ len (and-right samples _ two) in
+    let over : overSound (lengths .over) (levels .current) ch ≡ true = and-right (samples && leb (ch .«loss_run») len) _ s in
     and-true _ _
-    (and-true _ _ (window-set (ch .samples) slot (sampleOf code) (and-left _ (leb (ch .«loss_run») lossFrames) two) (sample-is-sound code h))
-    (le-leb _ lossFrames (run-le lossFrames (ch .«loss_run») counted (enabled && loss .meets levels window) loss-run)))
-    (over-sound (levels .current) (leb (levels .pickup) (amplitudeOf 1 window) && unrestrainedBy (levels .restraint) window) counted enabled
-    (ch .«over_latch») (ch .«over_run») _ refl over)
+    (and-true _ _ (window-set (ch .samples) slot (sampleOf code) (and-left _ (leb (ch .«loss_run») len) two) (sample-is-sound code h))
+    (le-leb _ len (run-le len (ch .«loss_run») counted (enabled && loss lengths .meets levels window) loss-run)))
+    (over-sound (lengths .over) some (levels .current) (leb (levels .pickup) (amplitudeOf 1 window) && unrestrainedBy (levels .restraint) window)
+    counted enabled (ch .«over_latch») (ch .«over_run») _ refl over)
 
-cleared-sound : (current : Bool) (ch : Channel) → channelSound current ch ≡ true → channelSound current (clearedOf ch) ≡ true
+cleared-sound : (lengths : Lengths) (current : Bool) (ch : Channel) → channelSound lengths current ch ≡ true
+    → channelSound lengths current (clearedOf ch) ≡ true
 unfolding channelSound
-cleared-sound current ch s = by current (and-left (windowSound (ch .samples)) _ (and-left _ (overSound current ch) s))
+cleared-sound lengths current ch s = by current (and-left (windowSound (ch .samples)) _ (and-left _ (overSound (lengths .over) current ch) s))
   where
-    by : (b : Bool) → windowSound (ch .samples) ≡ true → windowSound (ch .samples) && true && overSound b (clearedOf ch) ≡ true
-    by true e = rw e
-    by false e = rw e
+    by : (b : Bool) → windowSound (ch .samples) ≡ true
+        → windowSound (ch .samples) && leb 0 (lengths .loss) && overSound (lengths .over) b (clearedOf ch) ≡ true
+    by true e = rw (e, le-leb 0 (lengths .loss) (omega arith), le-leb 0 (lengths .over) (omega arith))
+    by false e = rw (e, le-leb 0 (lengths .loss) (omega arith))
 
 -- ---- soundness of a relay
 
 -- a fresh relay with accepted settings is sound
 pub fresh-sound : (s : Settings) → settingsSound s ≡ true → soundOf (freshRelay s) ≡ true
 unfolding soundOf channelsSound channelSound unusedRelay freshChannel windowSound every
-fresh-sound s e = rw e
+fresh-sound s e = rw (e, le-leb 0 (s .lengths .loss) (omega arith), le-leb 0 (s .lengths .over) (omega arith))
 
 found-le : (was on : Bool) (age : ℕ) → age ≤ settled → foundBy was on age ≤ settled
 found-le true true age h = h
@@ -203,7 +235,8 @@ frame-sound r codes enable s h = says-sound (acceptedFrame r codes enable .relay
           age = age-le (ageFound r enable) (found-le (r .«device_on») (bitOf enable 6) (r .age) (was .age));
           slot = slot-le (r .slot);
           channel = λ c l. rw (frame-channel r codes enable c l)
-              (channel-sound (levelsOf (r .settings .levels) c) (r .slot) (counted r enable) (enabledIn enable c) (getD codes c 0) (channelAt r c)
+              (channel-sound (r .settings .lengths) (lengths-say (r .settings .lengths) (settings-say (r .settings) (was .settings) .lengths) .1 .0)
+              (levelsOf (r .settings .levels) c) (r .slot) (counted r enable) (enabledIn enable c) (getD codes c 0) (channelAt r c)
               (codes-below codes h c l) (was .channel c l));
         }
 
@@ -211,9 +244,9 @@ pub reset-sound : (r : Relay) (mask : ℕ) → soundOf r ≡ true → soundOf (a
 unfolding acceptedReset resetChannel
 reset-sound r mask s = says-sound (acceptedReset r mask .relay) (next (sound-says r s))
   where
-    named : (c : ℕ) (b : Bool) → channelSound (isCurrent c) (channelAt r c) ≡ true
-        → channelSound (isCurrent c) (cond b (clearedOf (channelAt r c)) (channelAt r c)) ≡ true
-    named c true t = cleared-sound (isCurrent c) (channelAt r c) t
+    named : (c : ℕ) (b : Bool) → channelSound (r .settings .lengths) (isCurrent c) (channelAt r c) ≡ true
+        → channelSound (r .settings .lengths) (isCurrent c) (cond b (clearedOf (channelAt r c)) (channelAt r c)) ≡ true
+    named c true t = cleared-sound (r .settings .lengths) (isCurrent c) (channelAt r c) t
     named c false t = t
 
     next : Sound r → Sound (acceptedReset r mask .relay)

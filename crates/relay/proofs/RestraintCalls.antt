@@ -17,7 +17,7 @@ use Rattle.phasor.specs.Cordic.{amplitudeOf}
 use Rattle.relay.specs.Settings.{levelsOf, loss, over, unrestrained, unrestrainedBy}
 use Rattle.relay.specs.Relay.{channelAt, freshOf, frameOf, resetOf}
 use Rattle.relay.proofs.Computed.{computed}
-use Rattle.relay.proofs.Examples.{still, deviceOff, allZero}
+use Rattle.relay.proofs.Examples.{settingsOf, still, deviceOff, allZero}
 
 -- ---- windows
 
@@ -74,17 +74,17 @@ byRestraint w = table 101 (λ r. unrestrainedBy r w)
 
 -- whether each channel's over run, or loss run, is met by the window
 abbrev oversMet : Settings → List ℤ → List Bool
-oversMet s w = table 6 (λ c. over .meets (levelsOf (s .levels) c) w)
+oversMet s w = table 6 (λ c. over (s .lengths) .meets (levelsOf (s .levels) c) w)
 
 abbrev lossesMet : Settings → List ℤ → List Bool
-lossesMet s w = table 6 (λ c. loss .meets (levelsOf (s .levels) c) w)
+lossesMet s w = table 6 (λ c. loss (s .lengths) .meets (levelsOf (s .levels) c) w)
 
 -- ---- a frame on a relay that is handed in
 
 -- equal drop levels for voltages and for currents, unequal pickups and restraints
 abbrev levels : ℕ → ℕ → List ℕ → List ℕ → Settings
 levels voltageDrop drop pickup restraint =
-    record { levels = record { drop = replicate 3 voltageDrop ++ replicate 3 drop; pickup = pickup; restraint = restraint } }
+    settingsOf (record { drop = replicate 3 voltageDrop ++ replicate 3 drop; pickup = pickup; restraint = restraint })
 
 abbrev three : ℕ → ℕ → ℕ → List ℕ
 three a b c = a ∷ b ∷ c ∷ []
@@ -190,7 +190,7 @@ lessWaiting = waiting less (pos 0)
 
 -- all six channels with m1 = 100 and m2 = 37, restraint 37 on each current; a drop level of 100 is not met, one of 101 is
 abbrev droppingLevels : Settings
-droppingLevels = record { levels = record { drop = 100 ∷ 101 ∷ 100 ∷ 101 ∷ 100 ∷ 101 ∷ []; pickup = replicate 3 100; restraint = replicate 3 37 } }
+droppingLevels = settingsOf (record { drop = 100 ∷ 101 ∷ 100 ∷ 101 ∷ 100 ∷ 101 ∷ []; pickup = replicate 3 100; restraint = replicate 3 37 })
 
 abbrev dropping : Relay
 dropping =
@@ -261,10 +261,10 @@ notMade refusal = record { relay = allZero; refusal = refusal }
 
 -- a level out of range in each place, beside a restraint of 101 in each place
 abbrev badDrop : ℕ → ℕ → ℕ → FreshAnswer
-badDrop level c k = freshOf (record { levels = record { drop = set (replicate 6 1) c level; pickup = replicate 3 1; restraint = set (replicate 3 0) k 101 } })
+badDrop level c k = freshOf (settingsOf (record { drop = set (replicate 6 1) c level; pickup = replicate 3 1; restraint = set (replicate 3 0) k 101 }))
 
 abbrev badPickup : ℕ → ℕ → ℕ → FreshAnswer
-badPickup level j k = freshOf (record { levels = record { drop = replicate 6 1; pickup = set (replicate 3 1) j level; restraint = set (replicate 3 0) k 101 } })
+badPickup level j k = freshOf (settingsOf (record { drop = replicate 6 1; pickup = set (replicate 3 1) j level; restraint = set (replicate 3 0) k 101 }))
 
 -- ---- a list of frames from a fresh relay
 

@@ -17,7 +17,7 @@ use Rattle.relay.specs.declared.ResetAnswer.{ResetAnswer}
 use Rattle.relay.specs.Sound.{soundOf}
 use Rattle.relay.specs.Relay.{freshOf, frameOf, resetOf}
 use Rattle.relay.proofs.Computed.{computed}
-use Rattle.relay.proofs.Examples.{quiet, equalLevels, channel, still, allZero, struck, marked, mixed, mixedAfter, eachRun}
+use Rattle.relay.proofs.Examples.{quiet, settingsOf, equalLevels, channel, still, allZero, struck, marked, mixed, mixedAfter, eachRun}
 use Rattle.relay.proofs.Examples.{refusedAnswer, resetAnswer, answer400}
 use Rattle.relay.proofs.SoundCalls.{refusals}
 
@@ -25,7 +25,7 @@ use Rattle.relay.proofs.SoundCalls.{refusals}
 
 -- levels for amplitudes of 400: loss is met on channels 0, 1, 3 and 5, over on 4 and 5
 abbrev levels : Settings
-levels = record { levels = record { drop = 401 ∷ 402 ∷ 400 ∷ 403 ∷ 399 ∷ 404 ∷ []; pickup = 401 ∷ 400 ∷ 399 ∷ []; restraint = 7 ∷ 0 ∷ 0 ∷ [] } }
+levels = settingsOf (record { drop = 401 ∷ 402 ∷ 400 ∷ 403 ∷ 399 ∷ 404 ∷ []; pickup = 401 ∷ 400 ∷ 399 ∷ []; restraint = 7 ∷ 0 ∷ 0 ∷ [] })
 
 -- whether it remembers bit 6 as on, its age, its slot and its channels
 abbrev given : Bool → ℕ → ℕ → List Channel → Relay
@@ -145,7 +145,7 @@ pub record SettlingCalls : Type 0 where
   -- "a fresh relay remembers on"; one that is refused, by 1 or by 20, is all zero and remembers off, and every later call on it is refused by 2
   pub fresh-on : freshOf levels ≡ record { relay = given true 0 0 still; refusal = 0 }
   pub refused-off : (freshOf (equalLevels 0 0) ≡ record { relay = allZero; refusal = 1 })
-      × (freshOf (record { levels = record { drop = replicate 6 1; pickup = replicate 3 1; restraint = replicate 3 101 } }) ≡ record { relay = allZero; refusal = 20 })
+      × (freshOf (settingsOf (record { drop = replicate 6 1; pickup = replicate 3 1; restraint = replicate 3 101 })) ≡ record { relay = allZero; refusal = 20 })
   pub zero-relay : (map (frameOf allZero quiet) (127 ∷ 63 ∷ []) ≡ replicate 2 (refusedAnswer allZero 2))
       × (resetOf allZero 63 ≡ resetAnswer allZero 2)
   -- "A frame with bit 6 on after one with it off sets age to 0 before anything else": step 2 then makes it 1, and the frame is not counted, whatever

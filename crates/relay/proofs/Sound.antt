@@ -11,6 +11,7 @@ use Rattle.phasor.specs.Window.{windowSound}
 use Rattle.lists.proofs.Each.{and-true, and-left, and-right, every-at, every-true}
 use Rattle.frames.specs.Codes.{codesInRange}
 use Rattle.relay.specs.declared.Channel.{Channel}
+use Rattle.relay.specs.declared.Lengths.{Lengths}
 use Rattle.relay.specs.declared.Relay.{Relay}
 use Rattle.relay.specs.Settings.{isCurrent, settingsSound, settled}
 use Rattle.relay.specs.Sound.{channelSound, channelsSound, soundOf}
@@ -21,12 +22,12 @@ pub record Sound (r : Relay) : Type 0 where
   pub settings : settingsSound (r .settings) ≡ true
   pub age : r .age ≤ settled
   pub slot : r .slot ≤ 7
-  pub channel : (c : ℕ) → c < 6 → channelSound (isCurrent c) (channelAt r c) ≡ true
+  pub channel : (c : ℕ) → c < 6 → channelSound (r .settings .lengths) (isCurrent c) (channelAt r c) ≡ true
 
 pub sound-says : (r : Relay) → soundOf r ≡ true → Sound r
 unfolding soundOf channelsSound
 sound-says r s =
-    let three : settingsSound (r .settings) && leb (r .age) settled && leb (r .slot) 7 ≡ true = and-left _ (channelsSound (r .channels)) s in
+    let three : settingsSound (r .settings) && leb (r .age) settled && leb (r .slot) 7 ≡ true = and-left _ (channelsSound (r .settings .lengths) (r .channels)) s in
     let two : settingsSound (r .settings) && leb (r .age) settled ≡ true = and-left _ (leb (r .slot) 7) three in
     record {
       settings = and-left _ (leb (r .age) settled) two;
@@ -41,8 +42,8 @@ says-sound r s =
     let two = and-true _ _ (s .settings) (le-leb (r .age) settled (s .age)) in
     and-true _ _ (and-true _ _ two (le-leb (r .slot) 7 (s .slot))) (every-true 6 _ (s .channel))
 
--- what an accepted frame has passed
-passed : (holds : Bool) (k : ℕ) {n : ℕ} → cond holds n (suc k) ≡ 0 → (holds ≡ true) × (n ≡ 0)
+-- what a call that is accepted has passed, a check at a time
+pub passed : (holds : Bool) (k : ℕ) {n : ℕ} → cond holds n (suc k) ≡ 0 → (holds ≡ true) × (n ≡ 0)
 passed true k e = (refl, e)
 passed false k e = absurd (omega arith)
 
@@ -61,9 +62,9 @@ codes-passed r codes enable e = input-codes codes enable (passed (soundOf r) 1 e
 pub slot-passed : (r : Relay) (codes : List ℕ) (enable : ℕ) → frameRefusal r codes enable ≡ 0 → r .slot < 8
 slot-passed r codes enable e = let l : r .slot ≤ 7 = sound-says r (relay-passed r codes enable e) .slot in omega arith
 
-window-of : (current : Bool) (ch : Channel) → channelSound current ch ≡ true → windowSound (ch .samples) ≡ true
+window-of : (lengths : Lengths) (current : Bool) (ch : Channel) → channelSound lengths current ch ≡ true → windowSound (ch .samples) ≡ true
 unfolding channelSound
-window-of current ch h = and-left (windowSound (ch .samples)) _ (and-left (windowSound (ch .samples) && _) _ h)
+window-of lengths current ch h = and-left (windowSound (ch .samples)) _ (and-left (windowSound (ch .samples) && _) _ h)
 
 pub window-is-sound : (r : Relay) → soundOf r ≡ true → (c : ℕ) → c < 6 → windowSound (channelAt r c .samples) ≡ true
-window-is-sound r h c l = window-of (isCurrent c) (channelAt r c) (sound-says r h .channel c l)
+window-is-sound r h c l = window-of (r .settings .lengths) (isCurrent c) (channelAt r c) (sound-says r h .channel c l)

@@ -15,7 +15,7 @@ use Rattle.lists.specs.Each.{table}
 use Rattle.relay.specs.Sound.{channelSound, soundOf}
 use Rattle.relay.specs.Relay.{freshOf, frameOf, resetOf}
 use Rattle.relay.proofs.Computed.{computed}
-use Rattle.relay.proofs.Examples.{quiet, equalLevels, channel, still}
+use Rattle.relay.proofs.Examples.{quiet, bench, settingsOf, equalLevels, channel, still}
 
 -- ---- the refusals that two calls on a relay answer, a frame and a reset
 
@@ -71,13 +71,13 @@ byMask r = table 256 (λ mask. resetOf r mask .refusal)
 -- ---- one level apart from the others, in each place: what making a relay answers, and what the two calls on a relay that has it answer
 
 abbrev dropped : ℕ → ℕ → Settings
-dropped level c = record { levels = record { drop = set (replicate 6 819) c level; pickup = replicate 3 3413; restraint = replicate 3 0 } }
+dropped level c = settingsOf (record { drop = set (replicate 6 819) c level; pickup = replicate 3 3413; restraint = replicate 3 0 })
 
 abbrev picked : ℕ → ℕ → Settings
-picked level k = record { levels = record { drop = replicate 6 819; pickup = set (replicate 3 3413) k level; restraint = replicate 3 0 } }
+picked level k = settingsOf (record { drop = replicate 6 819; pickup = set (replicate 3 3413) k level; restraint = replicate 3 0 })
 
 abbrev restrained : ℕ → ℕ → Settings
-restrained r k = record { levels = record { drop = replicate 6 819; pickup = replicate 3 3413; restraint = set (replicate 3 0) k r } }
+restrained r k = settingsOf (record { drop = replicate 6 819; pickup = replicate 3 3413; restraint = set (replicate 3 0) k r })
 
 abbrev withLevel : Settings → List ℕ
 withLevel s = freshOf s .refusal ∷ under s
@@ -139,14 +139,14 @@ pub record SoundCalls : Type 0 where
   -- "loss runs 0 to 16", with the latch on or off
   pub loss-runs : (inEach (channel 16 0 false false) ≡ eachAccepted) × (inEach (channel 16 0 true false) ≡ eachAccepted)
   pub long-losses : (inEach (channel 17 0 true false) ≡ eachRefused) × (inEach (channel 255 0 false false) ≡ eachRefused)
-  pub each-loss : (table 256 (λ run. channelSound false (channel run 0 false false)) ≡ replicate 17 true ++ replicate 239 false)
-      × (table 256 (λ run. channelSound true (channel run 0 true false)) ≡ replicate 17 true ++ replicate 239 false)
+  pub each-loss : (table 256 (λ run. channelSound bench false (channel run 0 false false)) ≡ replicate 17 true ++ replicate 239 false)
+      × (table 256 (λ run. channelSound bench true (channel run 0 true false)) ≡ replicate 17 true ++ replicate 239 false)
   -- "over runs 0 to 4. A voltage has no over run and no over latch; a place kept for one must hold 0 or off."
   pub over-runs : (inEach (channel 0 1 false false) ≡ currentsAlone) × (inEach (channel 0 4 false false) ≡ currentsAlone)
   pub long-overs : (inEach (channel 0 5 false true) ≡ eachRefused) × (inEach (channel 0 255 false false) ≡ eachRefused)
-  pub each-over : (table 256 (λ run. channelSound true (channel 0 run false false)) ≡ replicate 5 true ++ replicate 251 false)
-      × (table 256 (λ run. channelSound true (channel 0 run false true)) ≡ replicate 5 true ++ replicate 251 false)
-      × (table 256 (λ run. channelSound false (channel 0 run false false)) ≡ true ∷ replicate 255 false)
+  pub each-over : (table 256 (λ run. channelSound bench true (channel 0 run false false)) ≡ replicate 5 true ++ replicate 251 false)
+      × (table 256 (λ run. channelSound bench true (channel 0 run false true)) ≡ replicate 5 true ++ replicate 251 false)
+      × (table 256 (λ run. channelSound bench false (channel 0 run false false)) ≡ true ∷ replicate 255 false)
   pub over-latches : (inEach (channel 0 0 false true) ≡ currentsAlone) × (inEach (channel 0 0 true false) ≡ eachAccepted)
 
 pub calls : SoundCalls

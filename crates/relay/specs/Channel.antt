@@ -1,5 +1,6 @@
 -- One channel: what a frame and a reset make of it (document 01, "Frames, runs, latches, resets"), and what new levels
--- do (document 02, Paper 6). Rests on the two kinds of run and on a window's samples.
+-- do (document 02, Paper 6). Rests on the two kinds of run, with the device's lengths (Paper 9), and on a window's
+-- samples.
 use Prim.Native.Nat.{ℕ, suc, min}
 use mathlib.Core.Bool.{Bool, false, _&&_, _||_, cond}
 use mathlib.Core.List.{List, []}
@@ -9,7 +10,8 @@ use lib.ListN.{set, replicate}
 use Rattle.frames.specs.Codes.{sampleOf}
 use Rattle.relay.specs.declared.Channel.{Channel}
 use Rattle.relay.specs.declared.ChannelLevels.{ChannelLevels}
-use Rattle.relay.specs.Settings.{Kind, loss, over}
+use Rattle.relay.specs.declared.Lengths.{Lengths}
+use Rattle.relay.specs.Settings.{Kind, loss, over, sameDrop, samePickup}
 
 -- what a list of channels reads as past its end
 abbrev pub noChannel : Channel
@@ -56,21 +58,22 @@ abbrev pub nextLatch : Kind → ℕ → Bool → Bool
 nextLatch kind run latch = latch || eqb run (kind .len)
 
 -- a channel with the window that step 1 leaves, and what steps 2 to 4 make of the rest
-abbrev pub channelWith : ChannelLevels → Bool → Bool → List ℤ → Channel → Channel
-channelWith levels counted enabled window ch =
-    let lossRun : ℕ = nextRun loss levels counted enabled window (ch .«loss_run») in
-    let overRun : ℕ = nextRun over levels counted enabled window (ch .«over_run») in
+abbrev pub channelWith : Lengths → ChannelLevels → Bool → Bool → List ℤ → Channel → Channel
+channelWith lengths levels counted enabled window ch =
+    let lossRun : ℕ = nextRun (loss lengths) levels counted enabled window (ch .«loss_run») in
+    let overRun : ℕ = nextRun (over lengths) levels counted enabled window (ch .«over_run») in
     record {
       samples = window;
       «loss_run» = lossRun;
       «over_run» = overRun;
-      «loss_latch» = nextLatch loss lossRun (ch .«loss_latch»);
-      «over_latch» = nextLatch over overRun (ch .«over_latch»);
+      «loss_latch» = nextLatch (loss lengths) lossRun (ch .«loss_latch»);
+      «over_latch» = nextLatch (over lengths) overRun (ch .«over_latch»);
     }
 
 -- steps 1 to 4 of a frame, for one channel
-unfoldable pub channelAfter : ChannelLevels → ℕ → Bool → Bool → ℕ → Channel → Channel
-channelAfter levels slot counted enabled code ch = channelWith levels counted enabled (windowAfter slot code ch) ch
+unfoldable pub channelAfter : Lengths → ChannelLevels → ℕ → Bool → Bool → ℕ → Channel → Channel
+channelAfter lengths levels slot counted enabled code ch =
+    channelWith lengths levels counted enabled (windowAfter slot code ch) ch
 
 -- the channel has a latch on
 abbrev pub latchOn : Channel → Bool
@@ -79,16 +82,16 @@ latchOn ch = ch .«loss_latch» || ch .«over_latch»
 -- ---- new levels (Paper 6)
 
 -- "A run carries over where its own level is equal; otherwise it becomes 0.", each run on its own
-abbrev pub carriedRun : Kind → ChannelLevels → ChannelLevels → ℕ → ℕ
-carriedRun kind old new run = cond (kind .same old new) run 0
+abbrev pub carriedRun : Bool → ℕ → ℕ
+carriedRun same run = cond same run 0
 
 -- "Windows .. latches .. carry over."
 abbrev pub carriedOver : ChannelLevels → ChannelLevels → Channel → Channel
 carriedOver old new ch =
     record {
       samples = ch .samples;
-      «loss_run» = carriedRun loss old new (ch .«loss_run»);
-      «over_run» = carriedRun over old new (ch .«over_run»);
+      «loss_run» = carriedRun (sameDrop old new) (ch .«loss_run»);
+      «over_run» = carriedRun (samePickup old new) (ch .«over_run»);
       «loss_latch» = ch .«loss_latch»;
       «over_latch» = ch .«over_latch»;
     }

@@ -11,12 +11,13 @@ use Rattle.phasor.specs.Lanes.{channelWindow}
 use Rattle.phasor.specs.Window.{windowSound}
 use Rattle.phasor.specs.declared.Window.{Window}
 use Rattle.relay.specs.declared.Channel.{Channel}
+use Rattle.relay.specs.declared.Lengths.{Lengths}
 use Rattle.relay.specs.declared.Levels.{Levels}
 use Rattle.relay.specs.declared.Settings.{Settings}
 use Rattle.relay.specs.declared.ChannelsAndOutput.{ChannelsAndOutput}
 use Rattle.frames.specs.Bits.{bitsBelow, enabledIn}
 use Rattle.relay.specs.Channel.{noChannel, windowAfter, channelWith, latchOn}
-use Rattle.relay.specs.Settings.{isCurrent, levelsOf, unrestrainedBy, settingsSound, lossFrames, settled}
+use Rattle.relay.specs.Settings.{isCurrent, levelsOf, unrestrainedBy, settingsSound, settled}
 use Rattle.relay.specs.Sound.{overSound}
 use Rattle.relay.specs.Relay.{windowIn, inputChecks, resetChannel, maskChecks, levelChecks, changedChannel}
 
@@ -46,8 +47,8 @@ windowsOf slot codes channels = table 6 (storedAt slot codes channels)
 -- channel c after steps 1 to 4, its bit of the output, and all of both, from the windows that step 1 leaves
 unfoldable pub channelIn : Settings → Bool → ℕ → List Window → List Channel → ℕ → Channel
 channelIn settings counted enable windows channels c =
-    channelWith (levelsOf (settings .levels) c) counted (enabledIn enable c) (channelWindow windows c)
-    (getD channels c noChannel)
+    channelWith (settings .lengths) (levelsOf (settings .levels) c) counted (enabledIn enable c)
+    (channelWindow windows c) (getD channels c noChannel)
 
 unfoldable pub onIn : Settings → Bool → ℕ → List Window → List Channel → ℕ → Bool
 onIn settings counted enable windows channels c =
@@ -84,17 +85,17 @@ changesOf old new channels = table 6 (changedChannel old new channels)
 abbrev pub windowSoundAt : List Channel → ℕ → Bool
 windowSoundAt channels c = windowSound (getD channels c noChannel .samples)
 
-abbrev pub stateSound : Bool → Channel → Bool
-stateSound current ch = leb (ch .«loss_run») lossFrames && overSound current ch
+abbrev pub stateSound : Lengths → Bool → Channel → Bool
+stateSound lengths current ch = leb (ch .«loss_run») (lengths .loss) && overSound (lengths .over) current ch
 
-abbrev pub stateSoundAt : List Channel → ℕ → Bool
-stateSoundAt channels c = stateSound (isCurrent c) (getD channels c noChannel)
+abbrev pub stateSoundAt : Lengths → List Channel → ℕ → Bool
+stateSoundAt lengths channels c = stateSound lengths (isCurrent c) (getD channels c noChannel)
 
 unfoldable pub windowsSound : List Channel → Bool
 windowsSound channels = every 6 (windowSoundAt channels)
 
-unfoldable pub statesSound : List Channel → Bool
-statesSound channels = every 6 (stateSoundAt channels)
+unfoldable pub statesSound : Lengths → List Channel → Bool
+statesSound lengths channels = every 6 (stateSoundAt lengths channels)
 
 -- what a relay has besides its channels
 abbrev pub restSound : Settings → ℕ → ℕ → Bool

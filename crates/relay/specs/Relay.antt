@@ -1,15 +1,15 @@
 -- The relay's four calls, refusals included (document 01, "Frames, runs, latches, resets", rows 1 to 5 of "Refusals",
--- and 20 of document 02), with the settling of document 02, Paper 5, and the new levels of Paper 6. Rests on one
--- channel's rules and on what a sound relay is.
+-- and 20 and 21 of document 02), with the settling of document 02, Paper 5, the new levels of Paper 6 and the lengths
+-- of Paper 9. Rests on one channel's rules and on what a sound relay is.
 use Prim.Native.Nat.{ℕ, _+_}
 use mathlib.Core.Bool.{Bool, true, false, _&&_, _||_, not, cond}
-use mathlib.Core.List.{List, [], _∷_}
+use mathlib.Core.List.{List, [], _∷_, _++_}
 use lib.IntN.{ℤ}
 use lib.Dec.{ltb, leb, eqb}
 use lib.ListN.{getD, replicate}
 use Rattle.lists.specs.Each.{table}
 use Rattle.refusals.specs.Refusals.{Check, _orElse_, firstFault, accepted}
-use Rattle.refusals.specs.Refusals.{badSetting, unsoundRelay, badCode, badEnable, badMask, badRestraint}
+use Rattle.refusals.specs.Refusals.{badSetting, unsoundRelay, badCode, badEnable, badMask, badRestraint, badLength}
 use Rattle.frames.specs.Codes.{codesInRange}
 use Rattle.frames.specs.Bits.{bitOf, bitsBelow, enabledIn}
 use Rattle.phasor.specs.Cordic.{amplitudeOf}
@@ -21,7 +21,7 @@ use Rattle.relay.specs.declared.FreshAnswer.{FreshAnswer}
 use Rattle.relay.specs.declared.FrameAnswer.{FrameAnswer}
 use Rattle.relay.specs.declared.ResetAnswer.{ResetAnswer}
 use Rattle.relay.specs.declared.ChangeAnswer.{ChangeAnswer}
-use Rattle.relay.specs.Settings.{nineSound, restraintsSound, zeroSettings, levelsOf, settled}
+use Rattle.relay.specs.Settings.{nineSound, restraintsSound, lengthsSound, zeroSettings, levelsOf, settled}
 use Rattle.relay.specs.Channel.{noChannel, freshChannel, clearedOf, windowAfter, channelAfter, latchOn}
 use Rattle.relay.specs.Channel.{carriedOver}
 use Rattle.relay.specs.Sound.{soundOf}
@@ -39,7 +39,7 @@ unusedRelay on s = record { channels = replicate 6 freshChannel; age = 0; slot =
 abbrev pub freshRelay : Settings → Relay
 freshRelay s = unusedRelay true s
 
--- what a fresh relay that is refused by 1 or 20 returns: "all-zero", so that it remembers off
+-- what a fresh relay that is refused by 1, 20 or 21 returns: "all-zero", so that it remembers off
 abbrev pub zeroRelay : Relay
 zeroRelay = unusedRelay false zeroSettings
 
@@ -50,8 +50,12 @@ levelChecks l = (nineSound l orElse badSetting) ∷ (restraintsSound (l .restrai
 unfoldable pub levelRefusal : Levels → ℕ
 levelRefusal l = firstFault (levelChecks l)
 
-abbrev pub freshRefusal : Settings → ℕ
-freshRefusal s = levelRefusal (s .levels)
+-- "21, and not 1, for a length outside 1 to 24, after 20" (Paper 9)
+abbrev pub freshChecks : Settings → List Check
+freshChecks s = levelChecks (s .levels) ++ ((lengthsSound (s .lengths) orElse badLength) ∷ [])
+
+unfoldable pub freshRefusal : Settings → ℕ
+freshRefusal s = firstFault (freshChecks s)
 
 unfoldable pub freshOf : Settings → FreshAnswer
 freshOf s =
@@ -94,8 +98,8 @@ amplitudeIn slot codes channels c = amplitudeOf 1 (windowIn slot codes channels 
 -- channel c after steps 1 to 4
 unfoldable pub nextChannel : Settings → ℕ → Bool → List ℕ → ℕ → List Channel → ℕ → Channel
 nextChannel settings slot isCounted codes enable channels c =
-    channelAfter (levelsOf (settings .levels) c) slot isCounted (enabledIn enable c) (getD codes c 0)
-    (getD channels c noChannel)
+    channelAfter (settings .lengths) (levelsOf (settings .levels) c) slot isCounted (enabledIn enable c)
+    (getD codes c 0) (getD channels c noChannel)
 
 -- step 5: "bit c is 1 if channel c has a latch on and is enabled in this frame"
 unfoldable pub outputIn : Settings → ℕ → Bool → List ℕ → ℕ → List Channel → ℕ → Bool
@@ -202,7 +206,7 @@ acceptedChange r new =
         age = r .age;
         slot = r .slot;
         «device_on» = r .«device_on»;
-        settings = record { levels = new };
+        settings = record { levels = new; lengths = r .settings .lengths };  -- lengths are "fixed when it is made"
       };
       refusal = accepted;
     }

@@ -3,28 +3,27 @@ ghost use mathlib.Core.Path.{_≡_};
 ghost use Rattle.relay.specs.Sound.{overSound, channelSound, channelsSound, soundOf};
 ghost use Rattle.relay.specs.Internal.{stateSound, windowsSound, statesSound, restSound};
 use crate::Channel;
+use crate::Lengths;
 use crate::Relay;
 use crate::Settings;
-use crate::limits::LOSS_FRAMES;
-use crate::limits::OVER_FRAMES;
 use crate::limits::SETTLED;
 
-// A current's over run is 0 to 4; a voltage has none, and no over latch.
-fn over_sound(current: bool, ch: Channel) -> bool
-    ensures { λ r. ⌜ r ≡ overSound current ch ⌝ }
+// A current's over run is 0 to its length; a voltage has none, and no over latch.
+fn over_sound(len: u8, current: bool, ch: Channel) -> bool
+    ensures { λ r. ⌜ r ≡ overSound len current ch ⌝ }
 {
     if current {
-        ch.over_run <= OVER_FRAMES
+        ch.over_run <= len
     } else {
         (ch.over_run == 0) & !ch.over_latch
     }
 }
 
 // A channel's runs and latches.
-fn state_sound(current: bool, ch: Channel) -> bool
-    ensures { λ r. ⌜ r ≡ stateSound current ch ⌝ }
+fn state_sound(lengths: Lengths, current: bool, ch: Channel) -> bool
+    ensures { λ r. ⌜ r ≡ stateSound lengths current ch ⌝ }
 {
-    (ch.loss_run <= LOSS_FRAMES) & over_sound(current, ch)
+    (ch.loss_run <= lengths.loss) & over_sound(lengths.over, current, ch)
 }
 
 // The samples of all channels, with no early return: the compiler then tests eight at a time, and the outcome once.
@@ -43,12 +42,12 @@ fn windows_sound(channels: [Channel; 6]) -> bool
 }
 
 // The runs and latches of all channels.
-fn states_sound(channels: [Channel; 6]) -> bool
-    ensures { λ r. ⌜ r ≡ statesSound channels ⌝ }
+fn states_sound(lengths: Lengths, channels: [Channel; 6]) -> bool
+    ensures { λ r. ⌜ r ≡ statesSound lengths channels ⌝ }
 {
     let mut c: usize = 0;
     while c < 6 {
-        if !state_sound(3 <= c, channels[c]) {
+        if !state_sound(lengths, 3 <= c, channels[c]) {
             return false;
         }
         c += 1;
@@ -57,20 +56,20 @@ fn states_sound(channels: [Channel; 6]) -> bool
 }
 
 // One channel: its samples, its runs and latches.
-fn channel_sound(current: bool, ch: Channel) -> bool
-    ensures { λ r. ⌜ r ≡ channelSound current ch ⌝ }
+fn channel_sound(lengths: Lengths, current: bool, ch: Channel) -> bool
+    ensures { λ r. ⌜ r ≡ channelSound lengths current ch ⌝ }
 {
     let window = ch.samples;
-    phasor::window_sound(window) & state_sound(current, ch)
+    phasor::window_sound(window) & state_sound(lengths, current, ch)
 }
 
 // The six channels, one after the other.
-fn channels_sound(channels: [Channel; 6]) -> bool
-    ensures { λ r. ⌜ r ≡ channelsSound channels ⌝ }
+fn channels_sound(lengths: Lengths, channels: [Channel; 6]) -> bool
+    ensures { λ r. ⌜ r ≡ channelsSound lengths channels ⌝ }
 {
     let mut c: usize = 0;
     while c < 6 {
-        if !channel_sound(3 <= c, channels[c]) {
+        if !channel_sound(lengths, 3 <= c, channels[c]) {
             return false;
         }
         c += 1;
@@ -95,8 +94,9 @@ impl Relay {
     {
         let channels = self.channels;
         let settings = self.settings;
+        let lengths = settings.lengths;
         rest_sound(settings, self.age, self.slot)
-            & (windows_sound(channels) & states_sound(channels))
+            & (windows_sound(channels) & states_sound(lengths, channels))
     }
 
     // Whether a relay handed to `reset` or `change` is sound: channel after channel.
@@ -105,6 +105,7 @@ impl Relay {
     {
         let channels = self.channels;
         let settings = self.settings;
-        rest_sound(settings, self.age, self.slot) & channels_sound(channels)
+        let lengths = settings.lengths;
+        rest_sound(settings, self.age, self.slot) & channels_sound(lengths, channels)
     }
 }

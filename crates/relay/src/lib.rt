@@ -1,14 +1,15 @@
 // The relay of document 01: six channels, each with its window, runs and latches, under nine levels, and a restraint
 // level for each current (document 02, Paper 8); it settles at the start and when the device is enabled again (Paper
-// 5), and takes new levels while it runs (Paper 6). Its entry points are `Relay::fresh`, `Relay::frame`, `Relay::reset`
-// and `Relay::change`: each takes any arguments, a relay that is not sound too, and promises its whole answer.
+// 5), takes new levels while it runs (Paper 6), and counts runs up to lengths that it was made with (Paper 9). Its
+// entry points are `Relay::fresh`, `Relay::frame`, `Relay::reset` and `Relay::change`: each takes any arguments, a
+// relay that is not sound too, and promises its whole answer.
 ghost use mathlib.Core.Path.{_≡_};
 ghost use Rattle.relay.specs.Relay.{unusedRelay, freshOf, frameRefusal, acceptedFrame, refusedFrame, frameOf};
 ghost use Rattle.relay.specs.Relay.{acceptedReset, resetOf, acceptedChange, changeOf};
 ghost use Rattle.relay.specs.Internal.{frameRefusalBy, resetRefusalBy, changeRefusalBy};
 
 mod checks; // checks.rt: whether a relay is sound
-mod limits; // limits.rt: levels, restraint, kinds of run and their lengths
+mod limits; // limits.rt: levels, restraint, run lengths
 mod steps; // steps.rt: what an accepted call makes of a channel
 
 // One channel: its last eight samples beside its two runs and its two latches.
@@ -38,10 +39,19 @@ pub struct Levels {
     pub restraint: [u8; 3],
 }
 
+// The frames of a full loss run and of a full over run: one pair for the device, fixed when it is made (document 02,
+// Paper 9).
+#[repr(C)]
+pub struct Lengths {
+    pub loss: u8,
+    pub over: u8,
+}
+
 // All that a relay is made with.
 #[repr(C)]
 pub struct Settings {
     pub levels: Levels,
+    pub lengths: Lengths,
 }
 
 // `device_on` is bit 6 of the latest accepted frame; a fresh relay has it on.
@@ -113,20 +123,15 @@ impl Relay {
         }
     }
 
-    // Makes a fresh relay; a level outside 1 to 10,700, or a restraint above 100, is refused with the all-zero relay.
+    // Makes a fresh relay; a level outside 1 to 10,700, a restraint above 100, or a length outside 1 to 24, in this
+    // order, is refused with the all-zero relay.
     pub fn fresh(settings: Settings) -> FreshAnswer
         ensures { λ r. ⌜ r ≡ freshOf settings ⌝ }
     {
-        let levels = settings.levels;
-        let refusal = levels.refusal();
+        let refusal = settings.refusal();
         if refusal != refusals::ACCEPTED {
-            let zeros = Levels {
-                drop: [0; 6],
-                pickup: [0; 3],
-                restraint: [0; 3],
-            };
             return FreshAnswer {
-                relay: Relay::unused(false, Settings { levels: zeros }),
+                relay: Relay::unused(false, Settings::zeros()),
                 refusal: refusal,
             };
         }

@@ -14,10 +14,9 @@ ghost use Rattle.relay.specs.Internal.{unrestrainedIn};
 use crate::Channel;
 use crate::ChannelLevels;
 use crate::ChannelsAndOutput;
+use crate::Lengths;
 use crate::Levels;
 use crate::Settings;
-use crate::limits::LOSS_FRAMES;
-use crate::limits::OVER_FRAMES;
 use crate::limits::SETTLED;
 use crate::limits::unrestrained;
 use frames::bits::bit;
@@ -89,6 +88,7 @@ impl Channel {
     // is unrestrained or not.
     pub(crate) fn after(
         self,
+        lengths: Lengths,
         levels: ChannelLevels,
         window: phasor::Window,
         counted: bool,
@@ -98,19 +98,19 @@ impl Channel {
     ) -> Channel
         requires { ⌜ m ≡ amplitudeOf 1 (window .samples) ⌝ }
         requires { ⌜ unrestrained ≡ unrestrainedBy (levels .restraint) (window .samples) ⌝ }
-        ensures { λ r. ⌜ r ≡ channelWith levels counted enabled (window .samples) self ⌝ }
+        ensures { λ r. ⌜ r ≡ channelWith lengths levels counted enabled (window .samples) self ⌝ }
     {
         let samples = window.samples;
         let below = enabled & (m < levels.drop);
         let above = enabled & (levels.current & ((levels.pickup <= m) & unrestrained));
-        let loss = run_after(counted, below, self.loss_run, LOSS_FRAMES);
-        let over = run_after(counted, above, self.over_run, OVER_FRAMES);
+        let loss = run_after(counted, below, self.loss_run, lengths.loss);
+        let over = run_after(counted, above, self.over_run, lengths.over);
         Channel {
             samples: samples,
             loss_run: loss,
             over_run: over,
-            loss_latch: self.loss_latch | (loss == LOSS_FRAMES),
-            over_latch: self.over_latch | (over == OVER_FRAMES),
+            loss_latch: self.loss_latch | (loss == lengths.loss),
+            over_latch: self.over_latch | (over == lengths.over),
         }
     }
 }
@@ -208,6 +208,7 @@ pub(crate) fn channels_after(
         let all = settings.levels;
         let levels = all.of_channel(c);
         let channel = old[c].after(
+            settings.lengths,
             levels,
             windows[c],
             counted,

@@ -5,12 +5,16 @@
 ghost use Prim.Native.Nat.{_<_, _^_};
 use libc::STDIN_FILENO;
 use libc::STDOUT_FILENO;
+use relay::Lengths;
 use relay::Levels;
 use relay::Relay;
 use relay::Settings;
 
 // So many bytes are read at most.
 const MOST_INPUT: usize = 4096;
+
+// The frames of full runs: those of the bench program.
+const BENCH_LENGTHS: Lengths = Lengths { loss: 16, over: 4 };
 
 // The next state of the generator.
 fn next(state: u64) -> u64
@@ -95,6 +99,7 @@ fn run(frames: u64, first: u8) -> u64 {
     let hold = hold_by(first);
     let made = Relay::fresh(Settings {
         levels: levels_by(first),
+        lengths: BENCH_LENGTHS,
     });
     let mut relay = made.relay;
     let mut state: u64 = 1;

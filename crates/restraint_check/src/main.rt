@@ -3,6 +3,7 @@
 // report. The stored output was made by a second implementation.
 ghost use Prim.Native.Nat.{_<_, _≤_};
 use libc::STDOUT_FILENO;
+use relay::Lengths;
 use relay::Levels;
 use relay::Relay;
 use relay::Settings;
@@ -13,6 +14,9 @@ const INPUT: usize = 4096;
 const MOST: usize = 256;
 
 const CELLS: usize = 7 * MOST;
+
+// The frames of full runs: those of the bench program.
+const BENCH_LENGTHS: Lengths = Lengths { loss: 16, over: 4 };
 
 // A cell's low byte.
 fn low(cell: u16) -> u8 {
@@ -42,7 +46,10 @@ fn show_frames(cells: &[u16; CELLS], count: usize, restraint: u8)
         pickup: [3413; 3],
         restraint: [restraint; 3],
     };
-    let made = Relay::fresh(Settings { levels: levels });
+    let made = Relay::fresh(Settings {
+        levels: levels,
+        lengths: BENCH_LENGTHS,
+    });
     let mut relay = made.relay;
     let mut n: usize = 0;
     while n < count {

@@ -1,6 +1,7 @@
 // A story of two phases that trip, one of which is reset while the other stays tripped: a line for
 // each call. The stored output was made by a second implementation.
 use libc::STDOUT_FILENO;
+use relay::Lengths;
 use relay::Levels;
 use relay::Relay;
 use relay::Settings;
@@ -13,6 +14,9 @@ const QUIET: u16 = frames::MIDDLE_CODE;
 
 // So many frames are run.
 const FRAMES: u16 = 130;
+
+// The frames of full runs: those of the bench program.
+const BENCH_LENGTHS: Lengths = Lengths { loss: 16, over: 4 };
 
 // Channel 3 is disabled for four frames.
 fn enable_in(n: u16) -> u8 {
@@ -71,7 +75,10 @@ fn main() {
         pickup: [1603; 3],
         restraint: [0; 3],
     };
-    let made = Relay::fresh(Settings { levels: levels });
+    let made = Relay::fresh(Settings {
+        levels: levels,
+        lengths: BENCH_LENGTHS,
+    });
     let mut relay = made.relay;
     let mut n: u16 = 0;
     while n < FRAMES {

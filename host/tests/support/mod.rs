@@ -24,7 +24,7 @@ impl Flags {
 
 /// How often each refusal was answered.
 #[derive(Default)]
-pub struct Refusals([u64; 21]);
+pub struct Refusals([u64; 22]);
 
 impl Refusals {
     pub fn count(&mut self, refusal: u8) {

@@ -27,7 +27,7 @@ fn run_on(relay: &mut Relay, cells: &[u16]) -> u64 {
 
 /// Pickups 1, and one restraint level.
 fn restrained(level: u8) -> Settings {
-    Settings { levels: Levels { pickup: [1; 3], restraint: [level; 3], ..SETTINGS.levels } }
+    Settings { levels: Levels { pickup: [1; 3], restraint: [level; 3], ..SETTINGS.levels }, ..SETTINGS }
 }
 
 /// Each enable byte stands for 2 to the power of `hold` frames.

@@ -5,6 +5,7 @@ use Rattle.relay.specs.Channel.{runAfter, nextRun, nextLatch, channelWit
 use Rattle.relay.specs.Settings.{unrestrainedBy, loss, over}
 use Rattle.relay.specs.declared.Channel.{Channel}
 use Rattle.relay.specs.declared.ChannelLevels.{ChannelLevels}
+use Rattle.relay.specs.declared.Lengths.{Lengths}
 use borrow.Author.Needs.{needs}
 use lib.Dec.{ltb, leb}
 use lib.IntN.{ℤ}
@@ -14,20 +15,20 @@ use mathlib.Core.Path.{_≡_}
 use Rattle.relay.proofs.Channel.after.Statement.{statement}
 use Rattle.relay.proofs.Channel.after.Tie as tie
 
-made : (levels : ChannelLevels) (window : List ℤ) (counted enabled : Bool) (m : ℕ) (free : Bool) (lossRun overRun : ℕ) (ch : Channel)
+made : (lengths : Lengths) (levels : ChannelLevels) (window : List ℤ) (counted enabled : Bool) (m : ℕ) (free : Bool) (lossRun overRun : ℕ) (ch : Channel)
     → m ≡ amplitudeOf 1 window
     → free ≡ unrestrainedBy (levels .restraint) window
-    → lossRun ≡ runAfter counted (enabled && ltb m (levels .drop)) (loss .len) (ch .«loss_run»)
-    → overRun ≡ runAfter counted (enabled && (levels .current && (leb (levels .pickup) m && free))) (over .len) (ch .«over_run»)
+    → lossRun ≡ runAfter counted (enabled && ltb m (levels .drop)) (lengths .loss) (ch .«loss_run»)
+    → overRun ≡ runAfter counted (enabled && (levels .current && (leb (levels .pickup) m && free))) (lengths .over) (ch .«over_run»)
     → _≡_ {A = Channel} (record {
       samples = window;
       «loss_run» = lossRun;
       «over_run» = overRun;
-      «loss_latch» = nextLatch loss lossRun (ch .«loss_latch»);
-      «over_latch» = nextLatch over overRun (ch .«over_latch»);
-    }) (channelWith levels counted enabled window ch)
+      «loss_latch» = nextLatch (loss lengths) lossRun (ch .«loss_latch»);
+      «over_latch» = nextLatch (over lengths) overRun (ch .«over_latch»);
+    }) (channelWith lengths levels counted enabled window ch)
 unfolding nextRun
-made levels window counted enabled m free lossRun overRun ch q f l o = rw (l, o, q, f)
+made lengths levels window counted enabled m free lossRun overRun ch q f l o = rw (l, o, q, f)
 
 returns : tie.Need-returns
 returns c = search made

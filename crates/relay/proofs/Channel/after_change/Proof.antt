@@ -1,7 +1,7 @@
 -- `Channel::after_change` meets its contract: the runs are those that `carried_run` answers.
 use Prim.Native.Nat.{ℕ}
 use Rattle.relay.specs.Channel.{carriedOver}
-use Rattle.relay.specs.Settings.{loss, over}
+use Rattle.relay.specs.Settings.{sameDrop, samePickup}
 use Rattle.relay.specs.declared.Channel.{Channel}
 use Rattle.relay.specs.declared.ChannelLevels.{ChannelLevels}
 use borrow.Author.Needs.{needs}
@@ -11,8 +11,8 @@ use Rattle.relay.proofs.Channel.after_change.Statement.{statement}
 use Rattle.relay.proofs.Channel.after_change.Tie as tie
 
 made : (old new : ChannelLevels) (ch : Channel) (lossRun overRun : ℕ)
-    → lossRun ≡ cond (loss .same old new) (ch .«loss_run») 0
-    → overRun ≡ cond (over .same old new) (ch .«over_run») 0
+    → lossRun ≡ cond (sameDrop old new) (ch .«loss_run») 0
+    → overRun ≡ cond (samePickup old new) (ch .«over_run») 0
     → _≡_ {A = Channel} (record {
       samples = ch .samples;
       «loss_run» = lossRun;

@@ -18,7 +18,7 @@ made : (r : Relay) (new : Levels) (channels : List Channel) → channels ≡ cha
         age = r .age;
         slot = r .slot;
         «device_on» = r .«device_on»;
-        settings = record { levels = new };
+        settings = record { levels = new; lengths = r .settings .lengths };
       };
       refusal = 0;
     }) (acceptedChange r new)

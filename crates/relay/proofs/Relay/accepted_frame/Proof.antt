@@ -50,8 +50,8 @@ module _ (r : Relay) (codes : List ℕ) (enable : ℕ) (windows : List Window) (
       ≡ nextChannel (r .settings) (r .slot) (counted r enable) codes enable (r .channels) c
   unfolding channelIn nextChannel channelAfter
   channel-is c h =
-      ap (λ (w : List ℤ). channelWith (levelsOf (r .settings .levels) c) (counted r enable) (enabledIn enable c) w (getD (r .channels) c noChannel))
-      (window-is c h)
+      ap (λ (w : List ℤ). channelWith (r .settings .lengths) (levelsOf (r .settings .levels) c) (counted r enable) (enabledIn enable c) w
+      (getD (r .channels) c noChannel)) (window-is c h)
 
   on-is : (c : ℕ) → c < 6
       → onIn (r .settings) (counted r enable) enable windows (r .channels) c

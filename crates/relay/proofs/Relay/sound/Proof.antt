@@ -8,7 +8,8 @@ use mathlib.Core.Path.{_≡_}
 use Rattle.relay.proofs.Relay.sound.Statement.{statement}
 use Rattle.relay.proofs.Relay.sound.Tie as tie
 
-whole : (r : Relay) (s t : Bool) → s ≡ restSound (r .settings) (r .age) (r .slot) → t ≡ channelsSound (r .channels) → s && t ≡ soundOf r
+whole : (r : Relay) (s t : Bool) → s ≡ restSound (r .settings) (r .age) (r .slot) → t ≡ channelsSound (r .settings .lengths) (r .channels)
+    → s && t ≡ soundOf r
 unfolding soundOf
 whole r s t e f = rw (e, f)
 

@@ -6,6 +6,7 @@ use Rattle.relay.specs.Internal.{windowSoundAt, stateSoundAt, windowsSou
 use Rattle.relay.specs.Settings.{isCurrent}
 use Rattle.relay.specs.Sound.{channelSound, channelsSound, soundOf}
 use Rattle.relay.specs.declared.Channel.{Channel}
+use Rattle.relay.specs.declared.Lengths.{Lengths}
 use Rattle.relay.specs.declared.Relay.{Relay}
 use borrow.Author.Needs.{needs}
 use lib.ListN.{getD}
@@ -23,16 +24,17 @@ apart true false true y z = refl
 apart true false false y z = refl
 apart false b x y z = refl
 
-both : (n : ℕ) (channels : List Channel)
-    → every n (windowSoundAt channels) && every n (stateSoundAt channels) ≡ every n (λ c. channelSound (isCurrent c) (getD channels c noChannel))
+both : (lengths : Lengths) (n : ℕ) (channels : List Channel)
+    → every n (windowSoundAt channels) && every n (stateSoundAt lengths channels)
+    ≡ every n (λ c. channelSound lengths (isCurrent c) (getD channels c noChannel))
 unfolding every channelSound
-both zero channels = refl
-both (suc n) channels = rw (apart (every n (windowSoundAt channels)) (every n (stateSoundAt channels)), both n channels)
+both lengths zero channels = refl
+both lengths (suc n) channels = rw (apart (every n (windowSoundAt channels)) (every n (stateSoundAt lengths channels)), both lengths n channels)
 
-whole : (r : Relay) (s t u : Bool) → s ≡ restSound (r .settings) (r .age) (r .slot) → t ≡ windowsSound (r .channels) → u ≡ statesSound (r .channels)
-    → s && (t && u) ≡ soundOf r
+whole : (r : Relay) (s t u : Bool) → s ≡ restSound (r .settings) (r .age) (r .slot) → t ≡ windowsSound (r .channels)
+    → u ≡ statesSound (r .settings .lengths) (r .channels) → s && (t && u) ≡ soundOf r
 unfolding soundOf windowsSound statesSound channelsSound
-whole r s t u e f g = rw (e, f, g, both 6 (r .channels))
+whole r s t u e f g = rw (e, f, g, both (r .settings .lengths) 6 (r .channels))
 
 returns : tie.Need-returns
 returns c = search whole

@@ -2,6 +2,7 @@
 use Rattle.relay.specs.Internal.{stateSound}
 use Rattle.relay.specs.Sound.{channelSound}
 use Rattle.relay.specs.declared.Channel.{Channel}
+use Rattle.relay.specs.declared.Lengths.{Lengths}
 use Rattle.phasor.specs.Window.{windowSound}
 use borrow.Author.Needs.{needs}
 use mathlib.Core.Bool.{Bool, true, false, _&&_}
@@ -9,9 +10,10 @@ use mathlib.Core.Path.{_≡_, refl}
 use Rattle.relay.proofs.checks.channel_sound.Statement.{statement}
 use Rattle.relay.proofs.checks.channel_sound.Tie as tie
 
-both : (current : Bool) (ch : Channel) (w s : Bool) → w ≡ windowSound (ch .samples) → s ≡ stateSound current ch → w && s ≡ channelSound current ch
+both : (lengths : Lengths) (current : Bool) (ch : Channel) (w s : Bool) → w ≡ windowSound (ch .samples) → s ≡ stateSound lengths current ch
+    → w && s ≡ channelSound lengths current ch
 unfolding channelSound
-both current ch w s e f = rw (e, f, joined (windowSound (ch .samples)))
+both lengths current ch w s e f = rw (e, f, joined (windowSound (ch .samples)))
   where
     joined : (a b c : Bool) → a && (b && c) ≡ a && b && c
     joined true b c = refl

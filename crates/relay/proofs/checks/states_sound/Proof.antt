@@ -7,10 +7,10 @@ use Rattle.relay.proofs.checks.states_sound.Statement.{statement}
 use Rattle.relay.proofs.checks.states_sound.Tie as tie
 
 abbrev Inv-loop : tie.InvT-loop
-Inv-loop channels c₀ c = Passed 6 (stateSoundAt channels) c
+Inv-loop lengths channels c₀ c = Passed 6 (stateSoundAt lengths channels) c
 
 abbrev μ-loop : tie.MeasureT-loop
-μ-loop channels c₀ c = 6 - c
+μ-loop lengths channels c₀ c = 6 - c
 
 loop-holds : tie.Need-loop-holds Inv-loop μ-loop
 loop-holds c = search passed-none

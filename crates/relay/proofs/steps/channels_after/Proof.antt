@@ -50,7 +50,7 @@ module _
     again : (levels : ChannelLevels) (enabled : Bool) (ch : Channel) (out : ℕ) → c < 6
         → enabled ≡ enabledIn enable c
         → levels ≡ levelsOf (settings .levels) c
-        → ch ≡ channelWith levels counted enabled (channelWindow windows c) (getD old c noChannel)
+        → ch ≡ channelWith (settings .lengths) levels counted enabled (channelWindow windows c) (getD old c noChannel)
         → out ≡ output + cond ((ch .«loss_latch» || ch .«over_latch») && enabled) (2 ^ c) 0
         → Making settings counted enable windows old (set channels c ch) out (c + 1)
     unfolding channelIn onIn
