@@ -762,7 +762,12 @@ def switches():
     blind = [max(p for p in range(2, 120) if not any(r[i] for r in blink(p, samples, drop)))
              for i, samples, drop in ((1, wave(600), 1), (2, [0] * 600, 819))]
     say('With bit 6 off for one frame in every %d or fewer, over never latches, and in every %d or fewer loss does not' % tuple(blind))
-    say('over is back in the %dth frame, loss in the %dth' % back.pop())
+    back = back.pop()
+    say('over is back in the %dth frame, loss in the %dth' % back)
+    # the second press is another channel's, which leaves this one: it finds it as so many frames after its own reset do
+    cite('Two phases reset one after the other are as reset at once (Paper 2) where no frame comes between')
+    say('it is latched again before the second press from %d frames between on (%s ms; loss %d, %s ms)'
+        % (back[0], num(back[0] / 0.48), back[1], num(back[1] / 0.48)))
     # new levels in front of frame `at`, met before and after, with one frame missing to a full run; and new ones after every p frames
     renewed, often = set(), lambda p, samples, drop: [c for n, s in enumerate(samples) for c in (
         [('levels', 1000 + n, drop + n, 0)] if n % p == 0 else []) + [(s, True)]]

@@ -2,8 +2,8 @@
 //! relays that the archive itself hands back, with refused calls and resets among them, levels next to the amplitudes,
 //! restraint next to the second harmonic, and the device switched off and on; lists of the second implementation's own,
 //! in which levels are changed as well; single calls on relays that a caller made up; and estimates. Then lists of both
-//! makes, and single calls, on relays with run lengths of their own. Every answer is compared whole. `cargo test
-//! --release --test calls -- --long` runs twenty times as much.
+//! makes, and single calls, on relays with run lengths of their own. Last, resets in two strokes. Every answer is
+//! compared whole. `cargo test --release --test calls -- --long` runs twenty times as much.
 
 mod support;
 
@@ -106,6 +106,17 @@ struct Changes {
     /// Frames of the lists whose output byte is another on a relay whose changes keep every run, and on one whose
     /// changes make every run 0.
     told: [u64; 2],
+}
+
+/// Resets in two strokes.
+#[derive(Default)]
+struct Strokes {
+    /// Pairs of masks with no channel in common, with some, and of the same channels.
+    pairs: [u64; 3],
+    /// Pairs in which each stroke clears a run or a latch that the other leaves.
+    each: u64,
+    /// Lists of masks, by how many are in them.
+    lists: [u64; 9],
 }
 
 /// The second implementation's levels, settings and relay as the archive's.
@@ -809,6 +820,49 @@ fn lengths_handed_in(prng: &mut Prng, seen: &mut Seen) {
     Step { ours: relay_of(&theirs), theirs, shown: 0, hidden: 0 }.make(call, seen);
 }
 
+/// The relay after accepted masks, one after another.
+fn pressed(relay: host::Relay, masks: &[u8]) -> host::Relay {
+    masks.iter().fold(relay, |relay, &mask| {
+        let answer = relay.reset(mask);
+        assert_eq!(answer.refusal, 0, "{mask} on {relay:?}");
+        answer.relay
+    })
+}
+
+/// Two masks, and a list of masks, on a sound relay that a caller made up: one after another, in another order and at
+/// once.
+fn strokes_handed_in(prng: &mut Prng, strokes: &mut Strokes) {
+    let theirs = loop {
+        let (mut relay, _, _) = trace::frame_arguments(prng);
+        if prng.once_in(2) {
+            with_lengths(&mut relay, prng);
+        }
+        if is_sound(&relay) {
+            break relay;
+        }
+    };
+    let relay = relay_of(&theirs);
+    let a = prng.below(64) as u8;
+    let b = if prng.once_in(8) { a } else { prng.below(64) as u8 };
+    let at_once = pressed(relay, &[a | b]);
+    assert_eq!(at_once, relay_of(&reference::reset(theirs, a | b).relay), "{a} | {b} on {theirs:?}");
+    assert_eq!(pressed(relay, &[a, b]), at_once, "{a}, {b} on {theirs:?}");
+    assert_eq!(pressed(relay, &[b, a]), at_once, "{b}, {a} on {theirs:?}");
+    assert_eq!(pressed(relay, &[a, a]), pressed(relay, &[a]), "{a} twice on {theirs:?}");
+    assert_eq!(pressed(relay, &[0]), relay, "0 on {theirs:?}");
+    strokes.pairs[if a == b { 2 } else { usize::from(a & b != 0) }] += 1;
+    strokes.each += u64::from(at_once != pressed(relay, &[a]) && at_once != pressed(relay, &[b]));
+
+    let mut masks: Vec<u8> = (0..prng.below(9)).map(|_| prng.below(64) as u8 & prng.below(64) as u8).collect();
+    let union = pressed(relay, &[masks.iter().fold(0, |union, mask| union | mask)]);
+    assert_eq!(pressed(relay, &masks), union, "{masks:?} on {theirs:?}");
+    for k in (1..masks.len()).rev() {
+        masks.swap(k, prng.below(k as u64 + 1) as usize);
+    }
+    assert_eq!(pressed(relay, &masks), union, "{masks:?} on {theirs:?}");
+    strokes.lists[masks.len()] += 1;
+}
+
 impl ByLengths {
     /// A relay that is handed in.
     fn look_at(&mut self, relay: &reference::Relay) {
@@ -929,6 +983,12 @@ fn main() {
     for _ in 0..200_000 * flags.times {
         lengths_handed_in(&mut prng, &mut made_up_lengths);
     }
+    let mut strokes = Strokes::default();
+    let mut prng = flags.prng(10);
+    let made_up_strokes = 50_000 * flags.times;
+    for _ in 0..made_up_strokes {
+        strokes_handed_in(&mut prng, &mut strokes);
+    }
     println!(
         "calls: {in_lists} in {lists} lists, {made_up} on relays that a caller made up, {estimates} estimates, seed {}: all agree",
         flags.seed
@@ -1005,4 +1065,10 @@ fn main() {
     println!("  sound with a loss run above 16 {}, an over run above 4 {}", beyond[0], beyond[1]);
     println!("  refused by 2 for a length alone: 0 {}, above 24 {}", out_of_range[0], out_of_range[1]);
     assert!(above.iter().chain(&above_low).chain(&beyond).chain(&out_of_range).all(|&count| count >= 1_000));
+
+    let Strokes { pairs, each, lists } = strokes;
+    println!("calls: two strokes and a list of strokes on {made_up_strokes} sound relays that a caller made up: all agree");
+    println!("  masks with no channel in common {}, with some {}, the same {}", pairs[0], pairs[1], pairs[2]);
+    println!("  both strokes clear what the other leaves {each}; lists of 0 to 8 masks {lists:?}");
+    assert!(pairs.iter().chain(&lists).all(|&count| count >= 1_000) && each >= 10_000);
 }

@@ -1,14 +1,16 @@
 /* Reads the lines of `reference trace` on standard input, makes each call with
-   the C functions and compares number, relay, amplitudes, cells and bytes. */
+   the C functions and compares number, relay, amplitudes, cells and bytes. On the
+   relay of each accepted reset it also asks the law of Paper 2. */
 #include "relay.h"
 
 #include <stdio.h>
 #include <stdlib.h>
 #include <string.h>
 
-enum { MOST = 4000, OLD = 0xEE };
+enum { MOST = 4000, OLD = 0xEE, MASKS = 64 };
 
 static long line = 1;
+static long pairs = 0;
 
 static void differs(const char *what)
 {
@@ -118,13 +120,43 @@ static void check_frame(void)
         differs("output");
 }
 
+static struct relay pressed(struct relay relay, uint8_t mask)
+{
+    if (relay_reset(&relay, mask) != 0)
+        differs("number of a stroke");
+    return relay;
+}
+
+/* Paper 2 on a sound relay: this mask and each other one, in either order and at
+   once, and each mask twice. */
+static void check_strokes(struct relay relay, uint8_t a)
+{
+    struct relay after = pressed(relay, a);
+    for (uint8_t b = 0; b < MASKS; b++) {
+        struct relay other = pressed(relay, b);
+        struct relay at_once = pressed(relay, a | b);
+        struct relay a_then_b = pressed(after, b);
+        struct relay b_then_a = pressed(other, a);
+        struct relay twice = pressed(other, b);
+        if (memcmp(&a_then_b, &at_once, sizeof at_once) != 0 || memcmp(&b_then_a, &at_once, sizeof at_once) != 0)
+            differs("relay after two strokes");
+        if (memcmp(&twice, &other, sizeof other) != 0)
+            differs("relay after the same mask twice");
+        pairs++;
+    }
+}
+
 static void check_reset(void)
 {
     struct relay relay;
     take_relay(&relay);
     uint8_t mask = (uint8_t)take();
-    same_number(relay_reset(&relay, mask));
+    struct relay given = relay;
+    int number = relay_reset(&relay, mask);
+    same_number(number);
     same_relay(&relay);
+    if (number == 0)
+        check_strokes(given, mask);
 }
 
 static void check_change(void)
@@ -240,6 +272,6 @@ int main(void)
     }
     if (!feof(stdin) || line == 1)
         differs("end");
-    printf("%ld calls agree\n", line - 1);
+    printf("%ld calls agree, %ld pairs of strokes\n", line - 1, pairs);
     return 0;
 }

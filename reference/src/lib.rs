@@ -4,7 +4,8 @@
 //! It is written for reading and not for speed. Quotations are from document
 //! 01, those on harmonics and restraint from Paper 8, those on the remembered
 //! bit 6 from Paper 5, those on changed levels from Paper 6, those on run lengths
-//! from Paper 9: "Wherever a rule on runs says 16 or 4 it means these." NOTES.md
+//! from Paper 9: "Wherever a rule on runs says 16 or 4 it means these." Paper 2 is
+//! a law about resets and changes no rule: `strokes` and its tests have it. NOTES.md
 //! says how far it is independent of the proved one, and lists the decisions
 //! taken where the words could be read in two ways.
 
@@ -19,6 +20,7 @@ pub mod levels;
 pub mod prng;
 pub mod relay;
 pub mod restraint;
+pub mod strokes;
 pub mod trace;
 
 pub use amplitude::{amplitude, amplitude_of_order, cordic, estimate, re_im, re_im_of_order, sample, Estimate, Window};

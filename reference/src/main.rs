@@ -6,8 +6,9 @@
 //! `reference relay-check-restraint`: generated frames on relays with them.
 //! `reference levels`: scenarios with changed levels.
 //! `reference lengths`: relays with other run lengths than 16 and 4.
+//! `reference strokes`: resets in two strokes.
 
-use reference::{bench_text, cases, lengths, levels, played_text, relay, restraint, trace};
+use reference::{bench_text, cases, lengths, levels, played_text, relay, restraint, strokes, trace};
 use std::io::{self, Read, Write};
 use std::path::Path;
 use std::process::ExitCode;
@@ -25,6 +26,7 @@ fn main() -> ExitCode {
         ["relay-check-restraint"] => io::stdout().write_all(restraint::generated().as_bytes()),
         ["levels"] => io::stdout().write_all(levels::text().as_bytes()),
         ["lengths"] => io::stdout().write_all(lengths::text().as_bytes()),
+        ["strokes"] => io::stdout().write_all(strokes::text().as_bytes()),
         ["cases", directory] => write_cases(Path::new(directory)),
         ["trace", lines] => match lines.parse() {
             Ok(lines) => io::stdout().write_all(trace::text(lines).as_bytes()),
@@ -32,7 +34,7 @@ fn main() -> ExitCode {
         },
         _ => Err(io::Error::other(
             "usage: reference bench | cases DIR | trace LINES | played R | restraint | relay-check-restraint | \
-             levels | lengths",
+             levels | lengths | strokes",
         )),
     };
     match done {

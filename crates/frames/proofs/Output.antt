@@ -1,15 +1,16 @@
--- Laws of a byte that is made of bits, one bit a turn, from bit 0: it is as the definition says, and its bits read back.
--- Rests on the definitions of the bits alone.
+-- Laws of a byte that is made of bits, one bit a turn, from bit 0: it is as the definition says, its bits read back, and
+-- it is known by them. Rests on the definitions of the bits alone.
 use Prim.Native.Nat.{ℕ, zero, suc, _+_, _-_, _*_, _/_, _%_, _^_, _<_, _≤_}
-use mathlib.Core.Path.{_≡_, refl, ap, _∙_}
+use mathlib.Core.Path.{_≡_, refl, sym, ap, _∙_}
 use mathlib.Core.Bool.{Bool, true, false, cond}
 use native.Mathlib.Nat.{pow-suc, pow-succ', two-pow-succ, one-mul, one-le-pow, add-zero, add-suc}
-use native.Mathlib.Nat.{add-mul-div-left, add-div-right, div-eq-of-lt, add-mul-mod-self-left}
+use native.Mathlib.Nat.{add-mul-div-left, add-div-right, div-eq-of-lt, div-div-eq-div-mul, add-mul-mod-self-left}
 use native.Mathlib.Decide.{ℕ-discrete}
 use native.Mathlib.Numerals.{add-one}
 use native.Mathlib.Omega.{arith}
 use lib.Dec.{eqb, lit<}
 use lib.Pow.{shl-exact, pow-mono}
+use borrow.Author.Tests.{eqb-true, eqb-false}
 use Rattle.frames.specs.Bits.{bitOf, bitsBelow}
 
 -- one bit more
@@ -57,6 +58,25 @@ bit-bits (suc n) p c h = by (ℕ-discrete c n) (bit-bits n p c)
         let h : n ≡ suc (c + (n - suc c)) = omega arith in
         let q : 2 ^ n ≡ 2 ^ c * (2 * 2 ^ (n - suc c)) = ap (λ (k : ℕ). 2 ^ k) h ∙ power-split c (n - suc c) in
         rw q (ap (λ (y : ℕ). eqb y 1) (below-bit (bitsBelow n p) (2 ^ c) (2 ^ (n - suc c)) (p n) (one-le-pow c 2 (omega arith))) ∙ more (omega arith))
+
+-- bit c of half a number is bit c + 1 of it
+half-bit : (x c : ℕ) → bitOf (x / 2) c ≡ bitOf x (suc c)
+half-bit x c = rw (div-div-eq-div-mul, pow-succ' 2 c)
+
+low-bit : (x y : ℕ) → bitOf x 0 ≡ bitOf y 0 → x % 2 ≡ y % 2
+low-bit x y e = by (bitOf x 0) refl
+  where
+    by : (b : Bool) → bitOf x 0 ≡ b → x % 2 ≡ y % 2
+    by true q = omega (arith, eqb-true (x / 1 % 2) 1 q, eqb-true (y / 1 % 2) 1 (sym e ∙ q))
+    by false q = omega (arith, eqb-false (x / 1 % 2) 1 q, eqb-false (y / 1 % 2) 1 (sym e ∙ q))
+
+-- numbers of n bits are equal if their bits are
+pub same-bits : (n x y : ℕ) → x < 2 ^ n → y < 2 ^ n → ((c : ℕ) → c < n → bitOf x c ≡ bitOf y c) → x ≡ y
+same-bits zero x y h k e = omega arith
+same-bits (suc n) x y h k e =
+    let halves : x / 2 ≡ y / 2 = same-bits n (x / 2) (y / 2) (omega (arith, pow-succ' 2 n)) (omega (arith, pow-succ' 2 n))
+    (λ c l. half-bit x c ∙ e (suc c) (omega arith) ∙ sym (half-bit y c)) in
+    omega (arith, low-bit x y (e 0 (omega arith)))
 
 -- 1 shifted to a place of a byte
 pub shifted : (c : ℕ) → c < 8 → 1 * 2 ^ c % 256 ≡ 2 ^ c

@@ -1,8 +1,7 @@
 -- On lists from accepted settings demand 3 leaves open the runs alone (and what a list of channels holds past the sixth, which the code's array
 -- has not): any implementation that meets it answers every call as our relay does, and hands back the same settings, memory of bit 6, age,
 -- slot, samples and latches. Rests on demand 3 for our relay, and on bytes being known by their bits.
-use Prim.Native.Nat.{ℕ, zero, suc, _/_, _%_, _^_, _<_}
-use native.Mathlib.Nat.{pow-succ', div-div-eq-div-mul}
+use Prim.Native.Nat.{ℕ, _<_}
 use native.Mathlib.Decide.{ℕ-discrete}
 use native.Mathlib.Omega.{arith}
 use mathlib.Core.Path.{_≡_, refl, sym, _∙_}
@@ -11,12 +10,11 @@ use mathlib.Core.Bool.{Bool, true, false}
 use mathlib.Core.List.{List}
 use lib.Dec.{T}
 use lib.Seq.{ext-getD}
-use borrow.Author.Tests.{eqb-true, eqb-false}
 use Rattle.relay.specs.declared.Levels.{Levels}
 use Rattle.relay.specs.declared.Settings.{Settings}
 use Rattle.relay.specs.declared.Relay.{Relay}
 use Rattle.relay.specs.declared.FrameAnswer.{FrameAnswer}
-use Rattle.frames.specs.Bits.{bitOf}
+use Rattle.frames.proofs.Output.{same-bits}
 use Rattle.relay.specs.Relay.{channelAt}
 use Rattle.history.specs.Calls.{Codes, Call, frame, reset, change, frameRefusedBy, resetRefusedBy, changeRefusedBy, Implementation, theRelay}
 use Rattle.history.specs.Demand.{relayAfter, RelayIs, CallAnswered, AcceptedSettings, Demanded}
@@ -45,25 +43,6 @@ same-test true true p q = refl
 same-test false false p q = refl
 same-test true false p q = absurd (q .1 (p .0 tt))
 same-test false true p q = absurd (p .1 (q .0 tt))
-
--- bit c of half a number is bit c + 1 of it
-half-bit : (x c : ℕ) → bitOf (x / 2) c ≡ bitOf x (suc c)
-half-bit x c = rw (div-div-eq-div-mul, pow-succ' 2 c)
-
-low-bit : (x y : ℕ) → bitOf x 0 ≡ bitOf y 0 → x % 2 ≡ y % 2
-low-bit x y e = by (bitOf x 0) refl
-  where
-    by : (b : Bool) → bitOf x 0 ≡ b → x % 2 ≡ y % 2
-    by true q = omega (arith, eqb-true (x / 1 % 2) 1 q, eqb-true (y / 1 % 2) 1 (sym e ∙ q))
-    by false q = omega (arith, eqb-false (x / 1 % 2) 1 q, eqb-false (y / 1 % 2) 1 (sym e ∙ q))
-
--- numbers of n bits are equal if their bits are
-same-bits : (n x y : ℕ) → x < 2 ^ n → y < 2 ^ n → ((c : ℕ) → c < n → bitOf x c ≡ bitOf y c) → x ≡ y
-same-bits zero x y h k e = omega arith
-same-bits (suc n) x y h k e =
-    let halves : x / 2 ≡ y / 2 = same-bits n (x / 2) (y / 2) (omega (arith, pow-succ' 2 n)) (omega (arith, pow-succ' 2 n))
-    (λ c l. half-bit x c ∙ e (suc c) (omega arith) ∙ sym (half-bit y c)) in
-    omega (arith, low-bit x y (e 0 (omega arith)))
 
 module _ (d : Implementation) (meets : Demanded d) (settings : Settings) (ok : AcceptedSettings settings) where
   abbrev theirs : List Call → Relay

@@ -7,7 +7,6 @@ use mathlib.Core.Path.{_≡_, refl, sym, ap, _∙_}
 use mathlib.Core.Bool.{Bool, true, false, _&&_, not, cond}
 use mathlib.Core.List.{List}
 use lib.Dec.{leb, eqb}
-use lib.ListN.{length}
 use lib.Seq.{ext-getD}
 use borrow.Author.Tests.{eq-eqb, ne-eqb, leb-true, le-leb}
 use Rattle.lists.specs.Each.{table}
@@ -21,7 +20,7 @@ use Rattle.relay.specs.declared.Relay.{Relay}
 use Rattle.relay.specs.declared.ChangeAnswer.{ChangeAnswer}
 use Rattle.relay.specs.Settings.{isCurrent, nineSound, restraintsSound, levelsOf, sameDrop, samePickup}
 use Rattle.relay.specs.Channel.{noChannel, carriedOver}
-use Rattle.relay.specs.Sound.{overSound, channelSound, soundOf}
+use Rattle.relay.specs.Sound.{overSound, channelSound, soundOf, SoundRelay}
 use Rattle.relay.specs.Relay.{channelAt, levelRefusal, changedChannel, acceptedChange, refusedChange, changeRefusal, changeOf}
 use Rattle.relay.proofs.Sound.{Sound, sound-says, says-sound, passed}
 use Rattle.relay.proofs.Laws.{SettingsSay, settings-say}
@@ -171,12 +170,6 @@ module _ (r : Relay) (new : Levels) (s : soundOf r ≡ true) (e : levelRefusal n
       by false = refl
 
 -- ---- changing to the levels in force changes nothing
-
--- A sound relay of six channels: the code's array has six, a list of the logic any number.
-pub record SoundRelay : Type 0 where
-  pub relay : Relay
-  pub sound : soundOf relay ≡ true
-  pub six : length (relay .channels) ≡ 6
 
 -- levels that are equal to themselves keep each run
 same-channel : (levels : ChannelLevels) (ch : Channel) → carriedOver levels levels ch ≡ ch

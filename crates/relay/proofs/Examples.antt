@@ -299,13 +299,11 @@ pub record Examples : Type 0 where
       ≡ eachRun (λ loss over. relay 72 4 (alike (min 16 (loss + 1)) 0 (leb 15 loss) false))
   runs-cleared : eachRun (λ loss over. resetOf (relay 5 3 (replicate 3 (marked loss 0 true false) ++ replicate 3 (marked loss over true true))) 63)
       ≡ eachRun (λ loss over. resetAnswer (relay 5 3 (replicate 6 (marked 0 0 false false))) 0)
-  -- the same at each age below 72 and in each slot; a reset at each age and slot; a frame refused by 4 at each age
+  -- the same at each age below 72 and in each slot; a frame refused by 4 at each age
   each-early : table 72 (λ age. frameOf (relay age 3 (early (channel 16 4 false false))) quiet 127)
       ≡ table 72 (λ age. acceptedAnswer (relay (age + 1) 4 (early (channel 16 4 true true))) 63)
   each-early-slot : table 7 (λ slot. frameOf (relay 5 slot (early (channel 16 4 false false))) quiet 127)
       ≡ table 7 (λ slot. acceptedAnswer (relay 6 (slot + 1) (early (channel 16 4 true true))) 63)
-  each-age-reset : table 73 (λ age. table 8 (λ slot. resetOf (relay age slot (early (channel 16 4 false false))) 32))
-      ≡ table 73 (λ age. table 8 (λ slot. resetAnswer (relay age slot (early (channel 0 0 false false))) 0))
   each-age-refused : table 73 (λ age. frameOf (relay age 3 (early (channel 16 4 false false))) quiet 128)
       ≡ table 73 (λ age. refusedAnswer (relay age 3 (early (channel 16 4 false false))) 4)
   -- a channel that is not enabled: its runs become 0, its latch stays, its output bit is 0; bit 6 off disables all
@@ -385,7 +383,6 @@ examples = record {
   runs-cleared = refl;
   each-early = refl;
   each-early-slot = refl;
-  each-age-reset = refl;
   each-age-refused = refl;
   disabled = refl;
   each-enable = refl;

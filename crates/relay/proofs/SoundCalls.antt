@@ -61,12 +61,9 @@ sampled s k = record { samples = set (replicate 8 (pos 0)) k s; «loss_run» = 0
 abbrev inEachSlot : ℤ → List (List (List ℕ))
 inEachSlot s = table 8 (λ k. inEach (sampled s k))
 
--- what each byte gives as the enable byte of a frame and as the mask of a reset
+-- what each byte gives as the enable byte of a frame
 abbrev byEnable : Relay → List ℕ
 byEnable r = table 256 (λ enable. frameOf r quiet enable .refusal)
-
-abbrev byMask : Relay → List ℕ
-byMask r = table 256 (λ mask. resetOf r mask .refusal)
 
 -- ---- one level apart from the others, in each place: what making a relay answers, and what the two calls on a relay that has it answer
 
@@ -103,9 +100,9 @@ abbrev notRun : Relay → FrameAnswer
 notRun r = record { relay = r; refusal = 2; amplitudes = replicate 6 0; output = 0 }
 
 pub record SoundCalls : Type 0 where
-  -- "enable bit 7 is 1", "reset mask bit 6 or 7 is 1", of every byte; a relay that is not sound comes first
-  pub bytes : (byEnable (aging 72 7) ≡ replicate 128 0 ++ replicate 128 4) × (byMask (aging 72 7) ≡ replicate 64 0 ++ replicate 192 5)
-  pub bytes-unsound : (byEnable (aging 72 8) ≡ replicate 256 2) × (byMask (aging 72 8) ≡ replicate 256 2)
+  -- "enable bit 7 is 1", of every byte; a relay that is not sound comes first. For every mask that is in Resets and `reset-unsound`
+  pub bytes : byEnable (aging 72 7) ≡ replicate 128 0 ++ replicate 128 4
+  pub bytes-unsound : byEnable (aging 72 8) ≡ replicate 256 2
   -- "settings are in range", 1 to 10,700: each drop level and each pickup level
   pub lowest : (eachDrop 1 ≡ replicate 6 (0 ∷ bothAccepted)) × (eachPickup 1 ≡ replicate 3 (0 ∷ bothAccepted))
   pub highest : (eachDrop 10700 ≡ replicate 6 (0 ∷ bothAccepted)) × (eachPickup 10700 ≡ replicate 3 (0 ∷ bothAccepted))
@@ -125,7 +122,7 @@ pub record SoundCalls : Type 0 where
       × (table 3 (λ k. frameOf (restraining 255 k) quiet 127) ≡ table 3 (λ k. notRun (restraining 255 k)))
   pub unsound-reset : (table 3 (λ k. resetOf (restraining 101 k) 63) ≡ table 3 (λ k. record { relay = restraining 101 k; refusal = 2 }))
       × (table 3 (λ k. resetOf (restraining 255 k) 192) ≡ table 3 (λ k. record { relay = restraining 255 k; refusal = 2 }))
-  pub restraint-first : (byEnable (restraining 101 2) ≡ replicate 256 2) × (byMask (restraining 101 2) ≡ replicate 256 2)
+  pub restraint-first : byEnable (restraining 101 2) ≡ replicate 256 2
   -- "age is 0 to 72, slot 0 to 7"
   pub ages : (aged 0 0 ≡ bothAccepted) × (aged 72 0 ≡ bothAccepted) × (aged 73 0 ≡ bothRefused) × (aged 255 0 ≡ bothRefused)
   pub each-age : table 256 (λ age. soundOf (aging age 0)) ≡ replicate 73 true ++ replicate 183 false
@@ -153,8 +150,8 @@ pub calls : SoundCalls
 unfolding computed
 calls =
     record {
-      bytes = (refl, refl);
-      bytes-unsound = (refl, refl);
+      bytes = refl;
+      bytes-unsound = refl;
       lowest = (refl, refl);
       highest = (refl, refl);
       none = (refl, refl);
@@ -168,7 +165,7 @@ calls =
       restraint-ages = (refl, refl);
       unsound-frame = (refl, refl);
       unsound-reset = (refl, refl);
-      restraint-first = (refl, refl);
+      restraint-first = refl;
       ages = (refl, refl, refl, refl);
       each-age = refl;
       each-slot = refl;

@@ -5,10 +5,11 @@
 -- length outside 1 to 24. No other relation between fields is asked for. Rests on the settings and on a window's
 -- samples.
 use Prim.Native.Nat.{ℕ}
-use mathlib.Core.Bool.{Bool, _&&_, not, cond}
+use mathlib.Core.Path.{_≡_}
+use mathlib.Core.Bool.{Bool, true, _&&_, not, cond}
 use mathlib.Core.List.{List}
 use lib.Dec.{leb, eqb}
-use lib.ListN.{getD}
+use lib.ListN.{length, getD}
 use Rattle.lists.specs.Each.{every}
 use Rattle.phasor.specs.Window.{windowSound}
 use Rattle.relay.specs.declared.Channel.{Channel}
@@ -32,3 +33,9 @@ unfoldable pub soundOf : Relay → Bool
 soundOf r =
     settingsSound (r .settings) && leb (r .age) settled && leb (r .slot) 7
     && channelsSound (r .settings .lengths) (r .channels)
+
+-- a sound relay of six channels, as laws take it: the code's array has six, a list of the logic any number
+pub record SoundRelay : Type 0 where
+  pub relay : Relay
+  pub sound : soundOf relay ≡ true
+  pub six : length (relay .channels) ≡ 6

@@ -58,9 +58,9 @@ impl Channel {
         if !named {
             return self;
         }
-        let samples = self.samples;
+        let kept = self.samples;
         Channel {
-            samples: samples,
+            samples: kept,
             loss_run: 0,
             over_run: 0,
             loss_latch: false,

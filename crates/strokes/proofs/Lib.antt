@@ -1,0 +1,4 @@
+pub mod Bits
+pub mod Calls
+pub mod Laws
+pub mod Lists
