@@ -768,6 +768,8 @@ def switches():
     cite('Two phases reset one after the other are as reset at once (Paper 2) where no frame comes between')
     say('it is latched again before the second press from %d frames between on (%s ms; loss %d, %s ms)'
         % (back[0], num(back[0] / 0.48), back[1], num(back[1] / 0.48)))
+    # Paper 14 is proved and not computed (crate one_phase); `channel` here is one channel alone
+    cite("One phase's history is its own (Paper 14)", 'bit 6 and the settling after it', 'a code above 1023 on one wire refuses the frame for all six')
     # new levels in front of frame `at`, met before and after, with one frame missing to a full run; and new ones after every p frames
     renewed, often = set(), lambda p, samples, drop: [c for n, s in enumerate(samples) for c in (
         [('levels', 1000 + n, drop + n, 0)] if n % p == 0 else []) + [(s, True)]]

@@ -12,6 +12,7 @@ use reference::relay::{frame_refusal, is_enabled, is_sound, levels_refusal, rese
 use reference::relay::{Lengths, FIRST_CURRENT, FULL_AGE, HIGHEST_LENGTH, HIGHEST_LEVEL, HIGHEST_RESTRAINT};
 use reference::trace::{self, RunsAtChanges};
 use reference::{amplitude, amplitude_of_order, Call, Exact, History, Latch, Levels, Settings};
+use support::relays::{levels_of, relay_of, settings_of};
 use support::{Flags, Refusals};
 
 /// The bench program's lengths: the older lists keep them.
@@ -117,27 +118,6 @@ struct Strokes {
     each: u64,
     /// Lists of masks, by how many are in them.
     lists: [u64; 9],
-}
-
-/// The second implementation's levels, settings and relay as the archive's.
-fn levels_of(of: &Levels) -> host::Levels {
-    host::Levels { drop: of.drop, pickup: of.pickup, restraint: of.restraint }
-}
-
-fn settings_of(of: &Settings) -> host::Settings {
-    let Lengths { loss, over } = of.lengths;
-    host::Settings { levels: levels_of(&of.levels), lengths: host::Lengths { loss, over } }
-}
-
-fn relay_of(of: &reference::Relay) -> host::Relay {
-    let channels = of.channels.map(|channel| host::Channel {
-        samples: channel.samples,
-        loss_run: channel.loss_run,
-        over_run: channel.over_run,
-        loss_latch: channel.loss_latch,
-        over_latch: channel.over_latch,
-    });
-    host::Relay { channels, age: of.age, slot: of.slot, device_on: of.device_on, settings: settings_of(&of.settings) }
 }
 
 /// A steady wave of period eight, its second harmonic, and some noise.

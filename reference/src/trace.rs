@@ -106,7 +106,7 @@ fn length(prng: &mut Prng) -> u8 {
 }
 
 /// Either may be the greater.
-fn lengths(prng: &mut Prng) -> Lengths {
+pub(crate) fn lengths(prng: &mut Prng) -> Lengths {
     Lengths { loss: length(prng), over: length(prng) }
 }
 
@@ -471,16 +471,9 @@ impl Switch {
     }
 }
 
-/// A list of calls on a fresh relay at random, and settings that make one, with
-/// lengths of the whole range. The amplitudes are often near the levels. In most
-/// lists the device goes off and comes back, and refused frames, mostly with bit 6
-/// the other way, and resets come between, more often where it changes. About one
-/// call in twenty is a change of levels. It comes mostly where runs are above 0,
-/// and the levels stay near the amplitudes. `RunsAtChanges` counts what the changes
-/// did: lists of 300,000 calls in all have more than 11,000 of each of its four
-/// kinds.
-pub fn list(prng: &mut Prng) -> (Settings, Vec<Call>) {
-    let levels = Levels {
+/// Accepted levels for a list. The amplitudes of its waves are often near them.
+pub(crate) fn levels_of_list(prng: &mut Prng) -> Levels {
+    Levels {
         drop: std::array::from_fn(|_| match prng.below(8) {
             0 => prng.within(1, 4),
             1 => prng.within(10_600, 10_700),
@@ -499,8 +492,19 @@ pub fn list(prng: &mut Prng) -> (Settings, Vec<Call>) {
             3..=5 => 100,
             _ => prng.within(6, 60) as u8,
         }),
-    };
-    let settings = Settings { levels, lengths: lengths(prng) };
+    }
+}
+
+/// A list of calls on a fresh relay at random, and settings that make one, with
+/// lengths of the whole range. The amplitudes are often near the levels. In most
+/// lists the device goes off and comes back, and refused frames, mostly with bit 6
+/// the other way, and resets come between, more often where it changes. About one
+/// call in twenty is a change of levels. It comes mostly where runs are above 0,
+/// and the levels stay near the amplitudes. `RunsAtChanges` counts what the changes
+/// did: lists of 300,000 calls in all have more than 11,000 of each of its four
+/// kinds.
+pub fn list(prng: &mut Prng) -> (Settings, Vec<Call>) {
+    let settings = Settings { levels: levels_of_list(prng), lengths: lengths(prng) };
     let enable_faults = prng.within(4, 60) as u64;
     let reset_share = prng.within(5, 80) as u64;
     let length = if prng.once_in(4) { prng.below(300) } else { prng.within(300, 900) as u64 } as usize;
@@ -631,7 +635,7 @@ fn changes(prng: &mut Prng, relay: &Relay) -> Vec<Levels> {
 
 /// Moves one of the twelve levels: mostly by a little, now and then to the edge
 /// of what the channel's window has now, or near it.
-fn move_level(prng: &mut Prng, levels: &mut Levels, place: usize, relay: &Relay) {
+pub(crate) fn move_level(prng: &mut Prng, levels: &mut Levels, place: usize, relay: &Relay) {
     let channel = if place < 6 { place } else { FIRST_CURRENT + place % 3 };
     let window = &relay.channels[channel].samples;
     let m = amplitude(window);

@@ -13,11 +13,10 @@ use lib.Dec.{T}
 use lib.ListN.{length, set}
 use mir.Facts.{and-yes, yes-and}
 use Rattle.lists.specs.Each.{table}
-use Rattle.frames.specs.Codes.{sampleOf}
 use Rattle.relay.specs.declared.Channel.{Channel}
 use Rattle.relay.specs.declared.ChannelLevels.{ChannelLevels}
 use Rattle.relay.specs.Settings.{Kind}
-use Rattle.relay.specs.Channel.{freshChannel, clearedOf, windowAfter, runAfter, nextRun, nextLatch, carriedRun}
+use Rattle.relay.specs.Channel.{freshChannel, clearedOf, runAfter, nextRun, nextLatch, carriedRun}
 use Rattle.history.specs.History.{Input, Event, sampled, cleared, changed, inputs, frames, inputAt, resets, resetsBefore}
 use Rattle.history.specs.History.{levelsAt, changesBefore, windowOf, windowAt, Counted, Enabled, FullRun, FullRunMeeting, LatchOn}
 use Rattle.history.specs.Demand.{Margins}
@@ -252,9 +251,9 @@ module _ (kind : Kind) (made : ChannelLevels) where
 
 module _ (lossKind overKind : Kind) where
   -- steps 1 to 4 of a frame, with these kinds of run; and new levels
-  abbrev pub channelBy : ChannelLevels → ℕ → Bool → Bool → ℕ → Channel → Channel
-  channelBy levels slot counted enabled code ch =
-      let window : List ℤ = windowAfter slot code ch in
+  abbrev pub channelBy : ChannelLevels → ℕ → Bool → Bool → ℤ → Channel → Channel
+  channelBy levels slot counted enabled sample ch =
+      let window : List ℤ = set (ch .samples) slot sample in
       let lossRun : ℕ = nextRun lossKind levels counted enabled window (ch .«loss_run») in
       let overRun : ℕ = nextRun overKind levels counted enabled window (ch .«over_run») in
       record {
@@ -327,22 +326,21 @@ module _ (lossKind overKind : Kind) (loss-some : 0 < lossKind .len) (over-some :
           clock = clock-other es (changed new) refl t (v .clock);
         })
 
-    pub channel-sampled : (levels : ChannelLevels) → levels ≡ levelsAt made es (frames es) → (code : ℕ) (channelBit bit6 : Bool)
-        → ChannelIs lossKind overKind made (es ▷ sampled (record { sample = sampleOf code; channelBit = channelBit; bit6 = bit6 })) (ticked t bit6)
-        (channelBy lossKind overKind levels (t .slot) (countedBy t bit6) (channelBit && bit6) code ch)
-    channel-sampled levels l code channelBit bit6 =
+    pub channel-sampled : (levels : ChannelLevels) → levels ≡ levelsAt made es (frames es) → (i : Input)
+        → ChannelIs lossKind overKind made (es ▷ sampled i) (ticked t (i .bit6))
+        (channelBy lossKind overKind levels (t .slot) (countedBy t (i .bit6)) (i .channelBit && i .bit6) (i .sample) ch)
+    channel-sampled levels l i =
         record {
           samples = window ∙ rw frames-sampled;
-          lossRun = run-sampled lossKind made es i loss-some (ch .«loss_run») (ch .«loss_latch») (countedBy t bit6) levels _ counted l window (v .lossRun);
-          overRun = run-sampled overKind made es i over-some (ch .«over_run») (ch .«over_latch») (countedBy t bit6) levels _ counted l window (v .overRun);
+          lossRun = run-sampled lossKind made es i loss-some (ch .«loss_run») (ch .«loss_latch») (countedBy t (i .bit6)) levels _ counted l window
+              (v .lossRun);
+          overRun = run-sampled overKind made es i over-some (ch .«over_run») (ch .«over_latch») (countedBy t (i .bit6)) levels _ counted l window
+              (v .overRun);
           clock = clock-sampled es i t (v .clock);
         }
       where
-        i : Input
-        i = record { sample = sampleOf code; channelBit = channelBit; bit6 = bit6 }
-
-        counted : T (countedBy t bit6) ↔ Counted (es ▷ sampled i) (frames es)
+        counted : T (countedBy t (i .bit6)) ↔ Counted (es ▷ sampled i) (frames es)
         counted = counted-is es i t (v .clock)
 
-        window : set (ch .samples) (t .slot) (sampleOf code) ≡ windowAt (es ▷ sampled i) (frames es)
-        window = ap₂ (λ (w : List ℤ) (k : ℕ). set w k (sampleOf code)) (v .samples) (v .clock .placed) ∙ window-sampled es i
+        window : set (ch .samples) (t .slot) (i .sample) ≡ windowAt (es ▷ sampled i) (frames es)
+        window = ap₂ (λ (w : List ℤ) (k : ℕ). set w k (i .sample)) (v .samples) (v .clock .placed) ∙ window-sampled es i

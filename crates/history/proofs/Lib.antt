@@ -10,6 +10,7 @@ pub mod FullRuns
 pub mod Refutations
 pub mod Restraint
 pub mod RestraintOnes
+pub mod Phase
 pub mod Relay
 pub mod RunLengths
 pub mod RunLengthsOnes

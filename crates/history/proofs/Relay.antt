@@ -1,5 +1,5 @@
 -- The relay after a list of calls: it is sound, and its levels, age, slot, memory and six channels are those that the calls tell.
--- One step for a call at the end, by cases on its refusal; then every list. Rests on Channel and on the laws of the relay's definitions.
+-- One step for a call at the end, by cases on its refusal; then every list. Rests on Phase and on the laws of the relay's definitions.
 use Prim.Native.Nat.{ℕ, zero, suc, _<_}
 use native.Mathlib.Decide.{ℕ-discrete}
 use native.Mathlib.Omega.{arith}
@@ -16,14 +16,11 @@ use Rattle.relay.specs.declared.Settings.{Settings}
 use Rattle.relay.specs.declared.Relay.{Relay}
 use Rattle.frames.specs.Bits.{bitOf}
 use Rattle.relay.specs.declared.ChannelLevels.{ChannelLevels}
-use Rattle.relay.specs.Settings.{Kind, levelsOf, loss, over}
-use Rattle.relay.specs.Channel.{clearedOf, channelAfter}
+use Rattle.relay.specs.Settings.{Kind, loss, over}
 use Rattle.relay.specs.Sound.{soundOf}
-use Rattle.relay.specs.Relay.{channelAt, unusedRelay, freshRelay, nextChannel, acceptedFrame, resetChannel, acceptedReset}
-use Rattle.relay.specs.Relay.{changedChannel, acceptedChange}
-use Rattle.relay.proofs.Changes.{change-sound, change-channel}
-use Rattle.relay.proofs.RunLengths.{sound-lengths}
-use Rattle.relay.proofs.Laws.{fresh-is, fresh-sound, fresh-channel, frame-sound, frame-channel, reset-sound, reset-channel}
+use Rattle.relay.specs.Relay.{channelAt, unusedRelay, freshRelay, acceptedFrame, acceptedReset, acceptedChange}
+use Rattle.relay.proofs.Changes.{change-sound}
+use Rattle.relay.proofs.Laws.{fresh-is, fresh-sound, frame-sound, reset-sound}
 use Rattle.history.specs.Calls.{Codes, Call, frame, reset, change, frameRefusedBy, resetRefusedBy, changeRefusedBy, refusalOf, isAccepted}
 use Rattle.history.specs.Calls.{acceptedFrames, deviceBits, deviceBit, inForce}
 use Rattle.history.specs.Calls.{Implementation, theRelay, handedBack, after}
@@ -33,7 +30,9 @@ use Rattle.history.proofs.Accepted.{frame-codes, frame-accepted, frame-
 use Rattle.history.proofs.Accepted.{change-refusal, change-accepted, change-refused}
 use Rattle.history.proofs.History.{_▷_, frames-sampled}
 use Rattle.history.proofs.Clock.{clockOf, bit6In}
-use Rattle.history.proofs.Channel.{ChannelIs, channel-fresh, channel-cleared, channel-changed, channel-sampled}
+use Rattle.history.proofs.Channel.{ChannelIs}
+use Rattle.history.proofs.Phase.{Phase, phaseOf, freshPhase, played, playedIn, played-append, played-is}
+use Rattle.history.proofs.Phase.{fresh-phase, frame-phase, reset-phase, change-phase}
 
 -- ---- each channel's history of the calls
 
@@ -230,94 +229,78 @@ current-at c (change new ∷ calls) made e n =
 -- ---- the relay
 
 module _ (settings : Settings) where
-  -- channel c of the relay is as its own history of the calls says, with such lengths, or with the relay's own
-  abbrev channelIsBy : Lengths → List Call → Relay → ℕ → Type 0
-  channelIsBy lengths calls r c = ChannelIs (loss lengths) (over lengths) (madeWith settings c) (channelHistory c calls) (clockOf r) (channelAt r c)
+  -- its kinds of run, and its settings under other levels: the lengths are those that it was made with
+  abbrev lossKind : Kind
+  lossKind = loss (settings .lengths)
 
-  abbrev lossIn : Relay → Kind
-  lossIn r = loss (r .settings .lengths)
+  abbrev overKind : Kind
+  overKind = over (settings .lengths)
 
-  abbrev overIn : Relay → Kind
-  overIn r = over (r .settings .lengths)
+  abbrev under : Levels → Settings
+  under levels = record { levels = levels; lengths = settings .lengths }
 
-  abbrev AtChannel : List Call → Relay → ℕ → Type 0
-  AtChannel calls r c = channelIsBy (r .settings .lengths) calls r c
+  -- channel c of a fresh one, after a history of its own
+  abbrev playedOf : ℕ → List Event → Phase
+  playedOf c es = played lossKind overKind (freshPhase (madeWith settings c)) es
 
   pub record Is (calls : List Call) (r : Relay) : Type 0 where
     pub sound : soundOf r ≡ true
-    pub channel : (c : ℕ) → c < 6 → AtChannel calls r c
-    pub held : r .settings ≡ record { levels = inForce (settings .levels) calls; lengths = settings .lengths }
+    pub phase : (c : ℕ) → c < 6 → phaseOf r c ≡ playedOf c (channelHistory c calls)
+    pub held : r .settings ≡ under (inForce (settings .levels) calls)
 
-  -- these are the lengths that it was made with
-  pub channel-is : (calls : List Call) (r : Relay) → Is calls r → (c : ℕ) → c < 6 → channelIsBy (settings .lengths) calls r c
-  channel-is calls r v c h =
-      subst (λ (l : Lengths). channelIsBy l calls r c) (ap (λ (s : Settings). s .lengths) (v .held)) (v .channel c h)
-
-  -- a sound relay's are above 0
-  module _ (calls : List Call) (r : Relay) (v : Is calls r) where
-    some-loss : 0 < r .settings .lengths .loss
-    some-loss = omega (arith, sound-lengths r (v .sound) .lossLength)
-
-    some-over : 0 < r .settings .lengths .over
-    some-over = omega (arith, sound-lengths r (v .sound) .overLength)
-
-  -- channel c's own levels in it are those at the end of its history
-  own-levels : (calls : List Call) (r : Relay) → Is calls r → (c : ℕ)
-      → ownLevels (r .settings .levels) c ≡ levelsAt (madeWith settings c) (channelHistory c calls) (frames (channelHistory c calls))
-  own-levels calls r v c = ap (λ (s : Settings). ownLevels (s .levels) c) (v .held) ∙ sym (own-in-force (settings .levels) c calls)
+  -- and so channel c is as that history says, where the lengths are above 0
+  pub channel-is : AcceptedSettings settings → (calls : List Call) (r : Relay) → Is calls r → (c : ℕ) → c < 6
+      → ChannelIs lossKind overKind (madeWith settings c) (channelHistory c calls) (clockOf r) (channelAt r c)
+  channel-is ok calls r v c h =
+      subst (λ (p : Phase). ChannelIs lossKind overKind (madeWith settings c) (channelHistory c calls) (p .clock) (p .channel)) (sym (v .phase c h))
+      (played-is lossKind overKind (omega (arith, ok .lossLength)) (omega (arith, ok .overLength)) (madeWith settings c)
+      (channelHistory c calls) .channel)
 
   fresh-is-so : AcceptedSettings settings → Is [] (freshRelay settings)
   unfolding unusedRelay
   fresh-is-so ok =
       record {
         sound = fresh-sound settings (settings-sound settings ok);
-        channel = λ c h. rw (fresh-channel settings c h)
-            (channel-fresh (loss (settings .lengths)) (over (settings .lengths)) (omega (arith, ok .lossLength)) (omega (arith, ok .overLength))
-            (madeWith settings c));
+        phase = fresh-phase settings;
         held = refl;
       }
 
+  -- an accepted call's part in channel c's history, played by the relay's own lengths
+  on : (calls : List Call) (r : Relay) → Is calls r → (c : ℕ) → c < 6 → (es : List Event)
+      → playedIn r (phaseOf r c) es ≡ playedOf c (channelHistory c calls ++ es)
+  on calls r v c h es =
+      ap₂ (λ (l : Lengths) (p : Phase). played (loss l) (over l) p es) (ap (λ (s : Settings). s .lengths) (v .held)) (v .phase c h)
+      ∙ sym (played-append lossKind overKind (freshPhase (madeWith settings c)) (channelHistory c calls) es)
+
   pub frame-is : (calls : List Call) (r : Relay) (codes : Codes) (enable : ℕ) → frameRefusedBy (codes .list) enable ≡ 0 → Is calls r
       → Is (calls ++ (frame codes enable ∷ [])) (acceptedFrame r (codes .list) enable .relay)
-  unfolding acceptedFrame nextChannel channelAfter levelsOf
+  unfolding acceptedFrame
   frame-is calls r codes enable e v =
       record {
         sound = frame-sound r (codes .list) enable (v .sound) (frame-codes (codes .list) enable e);
-        channel = λ c h. rw (frame-channel r (codes .list) enable c h, history-frame c calls codes enable e)
-            (channel-sampled (lossIn r) (overIn r) (some-loss calls r v) (some-over calls r v) (madeWith settings c)
-            (channelHistory c calls) (clockOf r) (channelAt r c)
-            (v .channel c h) (ownLevels (r .settings .levels) c) (own-levels calls r v c) (getD (codes .list) c 0) (bitOf enable c) (bitOf enable 6));
-        held = v .held ∙ ap (λ (l : Levels). record { levels = l; lengths = settings .lengths }) (sym (force-end (settings .levels) calls (frame codes enable ∷ [])));
+        phase = λ c h. rw (history-frame c calls codes enable e)
+            (frame-phase r c h (codes .list) enable ∙ on calls r v c h (sampled (inputOf c (codes .list) enable) ∷ []));
+        held = v .held ∙ ap under (sym (force-end (settings .levels) calls (frame codes enable ∷ [])));
       }
 
   reset-is : (calls : List Call) (r : Relay) (mask : ℕ) → resetRefusedBy mask ≡ 0 → Is calls r
       → Is (calls ++ (reset mask ∷ [])) (acceptedReset r mask .relay)
-  unfolding acceptedReset resetChannel
+  unfolding acceptedReset
   reset-is calls r mask e v =
       record {
         sound = reset-sound r mask (v .sound);
-        channel = λ c h. rw (reset-channel r mask c h, history-reset c calls mask e) (named c (bitOf mask c) (v .channel c h));
-        held = v .held ∙ ap (λ (l : Levels). record { levels = l; lengths = settings .lengths }) (sym (force-end (settings .levels) calls (reset mask ∷ [])));
+        phase = λ c h. rw (history-reset c calls mask e)
+            (reset-phase r c h mask ∙ on calls r v c h (cond (bitOf mask c) (cleared ∷ []) []));
+        held = v .held ∙ ap under (sym (force-end (settings .levels) calls (reset mask ∷ [])));
       }
-    where
-      named : (c : ℕ) (b : Bool) → AtChannel calls r c
-          → ChannelIs (lossIn r) (overIn r) (madeWith settings c) (channelHistory c calls ++ cond b (cleared ∷ []) []) (clockOf r)
-          (cond b (clearedOf (channelAt r c)) (channelAt r c))
-      named c true w =
-          channel-cleared (lossIn r) (overIn r) (some-loss calls r v) (some-over calls r v) (madeWith settings c)
-          (channelHistory c calls) (clockOf r) (channelAt r c) w
-      named c false w = rw append-nil w
 
   change-is : (calls : List Call) (r : Relay) (new : Levels) → changeRefusedBy new ≡ 0 → Is calls r
       → Is (calls ++ (change new ∷ [])) (acceptedChange r new .relay)
-  unfolding acceptedChange changedChannel levelsOf
+  unfolding acceptedChange
   change-is calls r new e v =
       record {
         sound = change-sound r new (v .sound) (change-refusal new ∙ e);
-        channel = λ c h. rw (change-channel r new c h, history-change c calls new e)
-            (channel-changed (lossIn r) (overIn r) (some-loss calls r v) (some-over calls r v) (madeWith settings c)
-            (channelHistory c calls) (clockOf r) (channelAt r c)
-            (v .channel c h) (ownLevels (r .settings .levels) c) (ownLevels new c) (own-levels calls r v c));
+        phase = λ c h. rw (history-change c calls new e) (change-phase r c h new ∙ on calls r v c h (changed (ownLevels new c) ∷ []));
         held = ap₂ (λ (l : Levels) (n : Lengths). record { levels = l; lengths = n })
             (sym (force-end (settings .levels) calls (change new ∷ []) ∙ force-change (inForce (settings .levels) calls) new e))
             (ap (λ (s : Settings). s .lengths) (v .held));
@@ -327,9 +310,8 @@ module _ (settings : Settings) where
   refused-is calls r call e v =
       record {
         sound = v .sound;
-        channel = λ c h. rw (history-refused c calls call e) (v .channel c h);
-        held = v .held ∙ ap (λ (l : Levels). record { levels = l; lengths = settings .lengths })
-            (sym (force-end (settings .levels) calls (call ∷ []) ∙ force-refused (inForce (settings .levels) calls) call e));
+        phase = λ c h. rw (history-refused c calls call e) (v .phase c h);
+        held = v .held ∙ ap under (sym (force-end (settings .levels) calls (call ∷ []) ∙ force-refused (inForce (settings .levels) calls) call e));
       }
 
   call-is : (calls : List Call) (r : Relay) (call : Call) → Dec (refusalOf call ≡ 0) → Is calls r

@@ -161,8 +161,8 @@ abbrev overBy4 : Tests → Settings → ℕ → Kind
 overBy4 test settings c = runOfWindows 4 (test settings c)
 
 abbrev withTests : Tests → Tests → Making
-withTests lossTest overTest settings c =
-    channelBy (lossBy lossTest settings c) (overBy4 overTest settings c) (madeWith settings c)
+withTests lossTest overTest settings c slot counted enabled code =
+    channelBy (lossBy lossTest settings c) (overBy4 overTest settings c) (madeWith settings c) slot counted enabled (sampleOf code)
 
 module _ (lossTest overTest : Tests) (settings : Settings) (ok : AcceptedSettings settings) (calls : List Call) (none : noChange calls ≡ true) where
   abbrev d : Implementation
@@ -178,7 +178,7 @@ module _ (lossTest overTest : Tests) (settings : Settings) (ok : AcceptedSetting
   unfolding nextRun
   at-frame c es t code channelBit bit6 ch v =
       channel-sampled (lossBy lossTest settings c) (overBy4 overTest settings c) (lit< tt) (lit< tt) (madeWith settings c) es t ch v
-      (levelsAt (madeWith settings c) es (frames es)) refl code channelBit bit6
+      (levelsAt (madeWith settings c) es (frames es)) refl (record { sample = sampleOf code; channelBit = channelBit; bit6 = bit6 })
 
   channel-is : (c : ℕ) → c < 6 → Holds c (channelHistory c calls) (clockOf (relayAfter d settings calls)) (channelAt (relayAfter d settings calls) c)
   channel-is =

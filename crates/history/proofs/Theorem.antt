@@ -56,7 +56,7 @@ module _ (settings : Settings) (ok : AcceptedSettings settings) where
   -- each channel, with the lengths that the relay was made with
   at-channel : (calls : List Call) (c : ℕ) → c < 6 → ChannelIs (loss (settings .lengths)) (over (settings .lengths)) (madeWith settings c)
       (channelHistory c calls) (clockOf (relay calls)) (channelAt (relay calls) c)
-  at-channel calls = channel-is settings calls (relay calls) (is calls)
+  at-channel calls = channel-is settings ok calls (relay calls) (is calls)
 
   some-loss : 0 < settings .lengths .loss
   some-loss = omega (arith, ok .lossLength)
@@ -68,7 +68,7 @@ module _ (settings : Settings) (ok : AcceptedSettings settings) where
   relay-clause calls =
       let v : Is settings calls (relay calls) = is calls in
       let first : List Event = channelHistory 0 calls in
-      let clock : ClockIs first (clockOf (relay calls)) = v .channel 0 (omega arith) .clock in
+      let clock : ClockIs first (clockOf (relay calls)) = at-channel calls 0 (omega arith) .clock in
       let bits : (k : ℕ) → k < acceptedFrames calls → bit6In first k ≡ deviceBit calls k = λ k l. sym (device-same 0 calls k) in
       record {
         sound = v .sound;
@@ -77,7 +77,7 @@ module _ (settings : Settings) (ok : AcceptedSettings settings) where
         age = clock .aged ∙ ap (λ (n : ℕ). min settled (sinceRise (bit6In first) n)) (frames-same 0 calls)
             ∙ ap (min settled) (since-same (bit6In first) (deviceBit calls) (acceptedFrames calls) bits);
         slot = clock .placed ∙ ap (λ (n : ℕ). n % 8) (frames-same 0 calls);
-        samples = λ c h. v .channel c h .samples ∙ ap (windowOf (channelHistory c calls)) (frames-same c calls);
+        samples = λ c h. at-channel calls c h .samples ∙ ap (windowOf (channelHistory c calls)) (frames-same c calls);
         lossLatch = λ c h. loss-rule _ _ some-loss some-over _ (at-channel calls c h);
         overLatch = λ c h. over-rule _ _ some-loss some-over _ (at-channel calls c h);
         held = v .held;
@@ -109,7 +109,7 @@ module _ (settings : Settings) (ok : AcceptedSettings settings) where
         → ChannelIs (loss (settings .lengths)) (over (settings .lengths)) (madeWith settings c) (channelHistory c calls) (clockOf (answer .relay)) (next c)
     next-is c h =
         rw (frame-channel (relay past) (codes .list) enable c h) at
-        (channel-is settings calls (answer .relay) (frame-is settings past (relay past) codes enable taken (is past)) c h)
+        (channel-is settings ok calls (answer .relay) (frame-is settings past (relay past) codes enable taken (is past)) c h)
 
     window-is : (c : ℕ) → c < 6
         → windowAfter (relay past .slot) (getD (codes .list) c 0) (channelAt (relay past) c) ≡ windowAt (channelHistory c calls) (acceptedFrames past)

@@ -1,4 +1,8 @@
-//! What the differential tests share: the flags and the tally of the refusals that were answered.
+//! What the differential tests share: the flags, the tally of the refusals that were answered, and the second
+//! implementation's values as the archive's. Not every test needs all of it.
+#![allow(dead_code)]
+
+pub mod relays;
 
 use reference::prng::Prng;
 
