@@ -799,6 +799,8 @@ def switches():
             assert [any(ran([(s, True, k % p > 0) for k, s in enumerate(samples)])) for p in (SETTLED + n, SETTLED + n + 1)] == [False, True]
             assert any(ran(often(n, samples, drop))) and (n == 1 or not any(ran(often(n - 1, samples, drop))))
     say('Also to know (lengths %d and %d)' % (OVER, LOSS))
+    # Paper 3 is proved and not computed (`read-no-bytes`, `read-cut` in crate reader)
+    cite('A capture of no bytes is a unit that has recorded nothing (Paper 3)', 'cut at any other place it is refused (by 8')
     say('A refused frame (any code above 1023, enable bit 7) is lost to all six channels')
     # after the loss slot k gets what belonged to slot k + 1
     ms = [m / 64 for w in steady(400) for first in range(8) for m in readings([w[(first + 1 + j) % 8] for j in range(8)], first, w)]

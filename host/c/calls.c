@@ -477,6 +477,18 @@ static int captures(void)
     CHECK(refused(p6k_read(bytes, written.count + 1, back, CELLS), P6K_BYTES_AFTER, back, old, sizeof back));
     CHECK(refused(p6k_read(bytes, written.count, back, CELLS - 1), P6K_DOES_NOT_FIT, back, old, sizeof back));
 
+    /* No bytes are zero frames, in all cells and in none; one byte, two or three of the mark are not. Zero frames are
+     * written as four bytes. */
+    for (size_t room = 0; room <= CELLS; room += CELLS) {
+        read = p6k_read(bytes, 0, back, room);
+        CHECK(read.refusal == P6K_ACCEPTED && read.count == 0 && memcmp(back, old, sizeof back) == 0);
+        for (size_t length = 1; length <= 3; length++)
+            CHECK(refused(p6k_read(bytes, length, back, room), P6K_ENDS_EARLY, back, old, sizeof back));
+    }
+    memset(bytes, 0xEE, sizeof bytes);
+    written = p6k_write(cells, 0, bytes, 4);
+    CHECK(written.refusal == P6K_ACCEPTED && written.count == 4 && memcmp(bytes, "P6K\0\xEE", 5) == 0);
+
     p6k_part part = p6k_excerpt(cells, CELLS, 3, 2);
     CHECK(part.start == 21 && part.length == 14);
     part = p6k_excerpt(cells, CELLS, SIZE_MAX, 2);
@@ -509,6 +521,8 @@ static int reports(void)
     length = p6k_report(example, 11, text, sizeof text);
     CHECK(length == 10 && memcmp(text, "refused 8\n", length) == 0);
     CHECK(p6k_report(example, sizeof example, text, sizeof text - 1) == 0 && memcmp(text, "refused 8\n", length) == 0);
+    length = p6k_report(example, 0, text, sizeof text);
+    CHECK(length == 9 && memcmp(text, "frames 0\n", length) == 0);
     return 0;
 }
 

@@ -184,7 +184,9 @@ p6k_change_answer p6k_change(p6k_relay relay, p6k_levels levels);
 p6k_estimate_answer p6k_estimate(p6k_samples window, uint8_t order);
 
 /* Reads a capture into the front of the cells. Checks 6 to 10 byte by byte, first fault first, then 11; refused:
- * count 0, the cells as lent. */
+ * count 0, the cells as lent. No bytes (bytes_length 0) are a capture of zero frames: refusal 0, count 0, the cells as
+ * lent, also where there are none. They still need a pointer that is not NULL. An input whose read failed before its
+ * first byte would look like a unit that has recorded nothing: look at the read before this call. */
 p6k_answer p6k_read(const uint8_t *bytes, size_t bytes_length, uint16_t *cells, size_t cells_length);
 
 /* Writes cells as a capture into the front of the bytes. Checks 12, 9, 11; refused: count 0, the bytes as lent. */
@@ -199,8 +201,9 @@ p6k_part p6k_excerpt(const uint16_t *cells, size_t cells_length, size_t frame, s
 p6k_strongest_window p6k_strongest(const uint16_t *cells, size_t cells_length, size_t channel);
 
 /* Puts the bench program's whole output for a capture at the front of the text and answers its length; of a refused
- * capture that is the line `refused N`. It has no refusal: where the text is shorter than P6K_REPORT_ROOM, the
- * answer is 0 and the text is as lent. */
+ * capture that is the line `refused N`, of no bytes the line `frames 0` (their pointer is not NULL either; see p6k_read
+ * on a read that failed). It has no refusal: where the text is shorter than P6K_REPORT_ROOM, the answer is 0 and the
+ * text is as lent. */
 size_t p6k_report(const uint8_t *capture, size_t capture_length, uint8_t *text, size_t text_length);
 
 #ifdef __cplusplus

@@ -226,7 +226,8 @@ pub fn estimate(samples: [i16; 8], order: u8) -> EstimateAnswer {
     unsafe { raw::p6k_estimate(raw::Samples { samples }, order) }
 }
 
-/// Reads a capture into the front of the cells; the count is in frames, seven cells each.
+/// Reads a capture into the front of the cells; the count is in frames, seven cells each. No bytes are a capture of zero
+/// frames: an input whose read failed before its first byte would look so too.
 pub fn read(bytes: &[u8], cells: &mut [u16]) -> Answer {
     unsafe { raw::p6k_read(bytes.as_ptr(), bytes.len(), cells.as_mut_ptr(), cells.len()) }
 }
@@ -248,8 +249,8 @@ pub fn strongest(cells: &[u16], channel: usize) -> StrongestWindow {
     unsafe { raw::p6k_strongest(cells.as_ptr(), cells.len(), channel) }
 }
 
-/// The bench program's whole output for a capture, into the front of the text; the answer is its length in bytes. A
-/// text shorter than `REPORT_ROOM` is left as it was, and the answer is 0.
+/// The bench program's whole output for a capture, into the front of the text; the answer is its length in bytes. Of no
+/// bytes it is `frames 0`. A text shorter than `REPORT_ROOM` is left as it was, and the answer is 0.
 pub fn report(capture: &[u8], text: &mut [u8]) -> usize {
     unsafe { raw::p6k_report(capture.as_ptr(), capture.len(), text.as_mut_ptr(), text.len()) }
 }

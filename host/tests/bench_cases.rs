@@ -2,6 +2,8 @@
 //! pieces. The texts were made by the second implementation, never by the program under test.
 
 use std::io::Write;
+use std::os::fd::OwnedFd;
+use std::os::unix::net::UnixStream;
 use std::path::{Path, PathBuf};
 use std::process::{Command, Stdio};
 use std::time::Duration;
@@ -91,12 +93,53 @@ fn example() {
     assert_eq!(bench(&capture, usize::MAX, 0), b"0 400 0 0 0 0 0 00\nframes 1\n");
 }
 
-/// A read that fails is an end of input: a folder, and an input that was closed, read as no bytes.
+/// What the program writes where its input is this one; never anything to standard error.
+fn on(input: impl Into<Stdio>) -> String {
+    let output = Command::new(root().join("target/bin/bench")).stdin(input).output().unwrap();
+    assert!(output.stderr.is_empty());
+    String::from_utf8(output.stdout).unwrap()
+}
+
+/// An input that gives these bytes and then, where `fails`, no end but a read that fails: the other end of the pair of sockets is dropped with a
+/// byte in it that nobody took.
+fn socket(bytes: &[u8], fails: bool) -> OwnedFd {
+    let (mut input, mut other) = UnixStream::pair().unwrap();
+    other.write_all(bytes).unwrap();
+    if fails {
+        input.write_all(b"?").unwrap();
+    }
+    drop(other);
+    input.into()
+}
+
+/// No bytes are a capture of zero frames, from an empty file and from a socket that ends at once.
 #[test]
-fn an_input_that_cannot_be_read_is_no_bytes() {
-    let program = root().join("target/bin/bench");
-    let folder = std::fs::File::open(root()).unwrap();
-    assert_eq!(Command::new(&program).stdin(folder).output().unwrap().stdout, b"refused 8\n");
-    let closed = Command::new("sh").args(["-c", "exec \"$0\" <&-"]).arg(&program).output().unwrap();
-    assert_eq!(closed.stdout, b"refused 8\n");
+fn no_bytes() {
+    assert_eq!(on(Stdio::null()), "frames 0\n");
+    assert_eq!(on(std::fs::File::open(root().join("captures/no-bytes.p6k")).unwrap()), "frames 0\n");
+    assert_eq!(on(socket(b"", false)), "frames 0\n");
+}
+
+/// An input whose read fails is not one of no bytes: no line at all. A folder; an input that was closed; one that is open for writing; a read that
+/// fails at once, within the mark, behind a whole capture, and behind what would have been refused.
+#[test]
+fn a_read_that_fails_prints_no_line() {
+    assert_eq!(on(std::fs::File::open(root()).unwrap()), "");
+    assert_eq!(on(std::fs::OpenOptions::new().write(true).open("/dev/null").unwrap()), "");
+    let closed = Command::new("sh").args(["-c", "exec \"$0\" <&-"]).arg(root().join("target/bin/bench")).output().unwrap();
+    assert!(closed.stdout.is_empty() && closed.stderr.is_empty());
+    for (bytes, text) in [(&b""[..], "frames 0\n"), (b"P6", "refused 8\n"), (b"P6K\0", "frames 0\n"), (b"?", "refused 6\n")] {
+        assert_eq!(on(socket(bytes, false)), text);
+        assert_eq!(on(socket(bytes, true)), "", "{bytes:02X?} and a read that fails");
+    }
+}
+
+/// The buffer is full with one byte more than the longest capture: nothing behind it is read, so that no read can fail there.
+#[test]
+fn a_full_buffer_is_not_a_failure() {
+    let (_, longest, _) = cases().into_iter().find(|(name, ..)| name == "longest").unwrap();
+    assert_eq!(longest.len(), 53_253);
+    let more = [&longest[..], &[0]].concat();
+    assert_eq!(on(socket(&longest, true)), "");
+    assert_eq!(on(socket(&more, true)), "refused 10\n");
 }

@@ -159,7 +159,8 @@ fn valid(frames: usize, text: &mut [u8], prng: &mut Prng, seen: &mut Seen) -> Ve
 /// A capture cut at every place, damaged by one byte at every place, and with a byte behind it.
 fn cut_and_damaged(bytes: &[u8], text: &mut [u8], prng: &mut Prng, seen: &mut Seen) {
     for place in 0..bytes.len() {
-        assert_ne!(read_with_and_without_room(&bytes[..place], seen).refusal, refusal::ACCEPTED);
+        let cut = if place == 0 { refusal::ACCEPTED } else { refusal::ENDS_EARLY };
+        assert_eq!(read_with_and_without_room(&bytes[..place], seen), host::Answer { refusal: cut, count: 0 });
         seen.cut += 1;
         let mut damaged = bytes.to_vec();
         match prng.below(6) {
@@ -179,6 +180,23 @@ fn cut_and_damaged(bytes: &[u8], text: &mut [u8], prng: &mut Prng, seen: &mut Se
     let mut tailed = bytes.to_vec();
     tailed.push(prng.below(256) as u8);
     assert_eq!(read_with_and_without_room(&tailed, seen).refusal, refusal::BYTES_AFTER);
+}
+
+/// No bytes are zero frames, whatever cells are lent; one byte, or two or three of the mark, are not.
+fn no_bytes(text: &mut [u8], seen: &mut Seen) {
+    for room in 0..300 {
+        assert_eq!(read(&[], room, seen), host::Answer { refusal: refusal::ACCEPTED, count: 0 });
+    }
+    report(&[], text, seen);
+    for byte in 0..=255 {
+        let expected = if byte == MARK[0] { refusal::ENDS_EARLY } else { refusal::MARK_DIFFERS };
+        assert_eq!(read_with_and_without_room(&[byte], seen).refusal, expected);
+        report(&[byte], text, seen);
+    }
+    for length in 1..=3 {
+        assert_eq!(read_with_and_without_room(&MARK[..length], seen).refusal, refusal::ENDS_EARLY);
+        report(&MARK[..length], text, seen);
+    }
 }
 
 /// Cells that may be of a wrong shape or out of range, to write and to search, and parts of them.
@@ -269,6 +287,7 @@ fn main() {
     }
     counts(&mut prng, &mut seen);
     ends_of_range(&mut prng, &mut seen);
+    no_bytes(&mut text, &mut seen);
     println!(
         "captures: {} valid, {} cut, {} damaged by one byte, {} writings, {} excerpts, {} strongest windows, {} reports, seed {}: all agree",
         seen.valid, seen.cut, seen.damaged, seen.written, seen.excerpts, seen.strongest, seen.reports, flags.seed

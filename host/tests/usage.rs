@@ -273,7 +273,7 @@ fn empty_slices() {
     let mut four = [0; 4];
     assert_eq!(write(&[], &mut four).count, 4);
     assert_eq!(read(&four, &mut []), host::Answer { refusal: refusal::ACCEPTED, count: 0 });
-    assert_eq!(read(&[], &mut []).refusal, refusal::ENDS_EARLY);
+    assert_eq!(read(&[], &mut []), host::Answer { refusal: refusal::ACCEPTED, count: 0 });
     assert_eq!(write(&[], &mut []).refusal, refusal::DOES_NOT_FIT);
     assert_eq!(strongest(&[], 0).refusal, refusal::FEW_FRAMES);
     assert!(excerpt(&[], 0, 0).is_empty());

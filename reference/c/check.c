@@ -1,6 +1,7 @@
 /* Reads the lines of `reference trace` on standard input, makes each call with
    the C functions and compares number, relay, amplitudes, cells and bytes. On the
-   relay of each accepted reset it also asks the law of Paper 2. */
+   relay of each accepted reset it also asks the law of Paper 2. An input of no
+   bytes is read twice, the second time from a null pointer. */
 #include "relay.h"
 
 #include <stdio.h>
@@ -11,6 +12,7 @@ enum { MOST = 4000, OLD = 0xEE, MASKS = 64 };
 
 static long line = 1;
 static long pairs = 0;
+static long without_bytes = 0;
 
 static void differs(const char *what)
 {
@@ -205,7 +207,14 @@ static void check_read(void)
     uint16_t *cells = exactly(room * sizeof *cells);
     for (size_t i = 0; i < room; i++)
         cells[i] = OLD;
-    same_number(capture_read(bytes, size, cells, room, &count));
+    int number = capture_read(bytes, size, cells, room, &count);
+    if (size == 0) {
+        size_t again = 9;
+        if (capture_read(NULL, 0, room ? cells : NULL, room, &again) != number || again != count)
+            differs("second reading of no bytes");
+        without_bytes++;
+    }
+    same_number(number);
     same_number((long)count);
     for (size_t i = 0; i < room; i++)
         if (take() != cells[i])
@@ -272,6 +281,6 @@ int main(void)
     }
     if (!feof(stdin) || line == 1)
         differs("end");
-    printf("%ld calls agree, %ld pairs of strokes\n", line - 1, pairs);
+    printf("%ld calls agree, %ld pairs of strokes, %ld readings of no bytes\n", line - 1, pairs, without_bytes);
     return 0;
 }

@@ -1,7 +1,8 @@
 #!/bin/sh
 # Compares the C twin with the Rust reference: the bench program on every case,
 # as it is and with restraint 15, and single calls on a random trace, built
-# plainly and with sanitizers.
+# plainly and with sanitizers. The C bench program prints nothing if its input is
+# a folder, closed, or not open for reading.
 set -eu
 here=$(cd "$(dirname "$0")/.." && pwd)
 cd "$here"
@@ -29,6 +30,14 @@ for build in "-O2" "-O3 -march=native" "-O1 -g -fsanitize=address,undefined -fno
         "$out/bench" 15 < "$capture" > "$out/text"
         cmp "$out/text" "${capture%.p6k}.15"
         count=$((count + 1))
+    done
+    for level in "" 15; do
+        "$out/bench" $level > "$out/text" 2>&1 < c && { echo "$build: a folder is read"; exit 1; }
+        cmp "$out/text" /dev/null
+        "$out/bench" $level > "$out/text" 2>&1 <&- && { echo "$build: a closed input is read"; exit 1; }
+        cmp "$out/text" /dev/null
+        "$out/bench" $level > "$out/text" 2>&1 0> /dev/null && { echo "$build: an output is read"; exit 1; }
+        cmp "$out/text" /dev/null
     done
     calls=$("$out/check" < "$out/trace") || { echo "$build: $calls"; exit 1; }
     echo "$build: $count bench texts agree, with and without restraint, $calls"

@@ -1,4 +1,4 @@
-/* Six-channel phasor relay, after document 01 and Papers 5, 6, 8 and 9 of
+/* Six-channel phasor relay, after document 01 and Papers 3, 5, 6, 8 and 9 of
    document 02. Every function answers the document's refusal number, 0 if the
    call is accepted. */
 #ifndef RELAY_H
@@ -90,7 +90,8 @@ int relay_change(struct relay *relay, const uint16_t drop[CHANNELS], const uint1
                  const uint8_t restraint[CURRENTS]);
 
 /* Refused, cells or bytes stay as they are and the count is 0. Reading counts
-   frames, writing counts bytes. */
+   frames, writing counts bytes. No bytes are read as zero frames; then `bytes`
+   may be NULL, as `cells` may where room is 0. */
 int capture_read(const uint8_t *bytes, size_t size, uint16_t *cells, size_t room, size_t *count);
 int capture_write(const uint16_t *cells, size_t size, uint8_t *bytes, size_t room, size_t *count);
 

@@ -113,6 +113,8 @@ pub fn all() -> Vec<Case> {
 fn lengths(table: &mut Table) {
     let mut prng = Prng(1);
     table.add("example", vec![0x50, 0x36, 0x4B, 0x01, 0x7F, 0xC8, 0x01, 0, 0, 0, 0, 0]);
+    // Zero frames, as `frames-0000` is.
+    table.add("no-bytes", Vec::new());
     for count in [0, 1, 7, 8, 9].into_iter().chain(71..=90) {
         let jitter = prng.within(0, 6);
         let frames = Frames::new(count, |n, c| {
@@ -505,9 +507,10 @@ fn refusals(table: &mut Table) {
         }
     }
 
-    // 8: every prefix of a capture of two frames, and some of the longer one.
+    // 8: every prefix of a capture of two frames but that of no bytes, and some of
+    // the longer one.
     let two = Frames(frames.0[..2].to_vec()).capture();
-    for len in 0..two.len() {
+    for len in 1..two.len() {
         table.add(format!("8-prefix-{len:02}"), two[..len].to_vec());
     }
     for n in [2, 5, 9] {

@@ -1,15 +1,15 @@
 //! Six-channel phasor relay: a second implementation of document 01 and of
-//! Papers 5, 6, 8 and 9 of document 02.
+//! Papers 3, 5, 6, 8 and 9 of document 02.
 //!
 //! It is written for reading and not for speed. Quotations are from document
 //! 01, those on harmonics and restraint from Paper 8, those on the remembered
-//! bit 6 from Paper 5, those on changed levels from Paper 6, those on run lengths
-//! from Paper 9: "Wherever a rule on runs says 16 or 4 it means these." Papers 2 and
-//! 14 are laws and change no rule. The one is about resets: `strokes` and its tests
-//! have it. The other is about one channel among six: `phases` has pairs of lists for
-//! it, and `tests/one_phase.rs` asks it. NOTES.md says how far it is independent of
-//! the proved one, and lists the decisions taken where the words could be read in
-//! two ways.
+//! bit 6 from Paper 5, those on changed levels from Paper 6, the one on zero bytes
+//! from Paper 3, those on run lengths from Paper 9: "Wherever a rule on runs says 16
+//! or 4 it means these." Papers 2 and 14 are laws and change no rule. The one is about
+//! resets: `strokes` and its tests have it. The other is about one channel among six:
+//! `phases` has pairs of lists for it, and `tests/one_phase.rs` asks it. NOTES.md says
+//! how far it is independent of the proved one, and lists the decisions taken where the
+//! words could be read in two ways.
 
 pub mod amplitude;
 pub mod bench;

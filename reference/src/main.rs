@@ -8,8 +8,10 @@
 //! `reference lengths`: relays with other run lengths than 16 and 4.
 //! `reference strokes`: resets in two strokes.
 
-use reference::{bench_text, cases, lengths, levels, played_text, relay, restraint, strokes, trace};
+use reference::{bench_text, capture, cases, lengths, levels, played_text, relay, restraint, strokes, trace};
+use std::fs::File;
 use std::io::{self, Read, Write};
+use std::os::fd::AsFd;
 use std::path::Path;
 use std::process::ExitCode;
 
@@ -47,9 +49,21 @@ fn main() -> ExitCode {
 }
 
 fn bench(restraint: u8) -> io::Result<()> {
-    let mut capture = Vec::new();
-    io::stdin().read_to_end(&mut capture)?;
-    io::stdout().write_all(&played_text(&capture, restraint))
+    match input() {
+        Ok(capture) => io::stdout().write_all(&played_text(&capture, restraint)),
+        // A read failed: no line at all, none on standard error either.
+        Err(_) => std::process::exit(1),
+    }
+}
+
+/// Standard input up to one byte more than the longest capture: whatever follows,
+/// the first byte too many decides. It is read as a file, since `io::Stdin` takes
+/// a descriptor that is not open for reading for an end of input.
+fn input() -> io::Result<Vec<u8>> {
+    let file = File::from(io::stdin().as_fd().try_clone_to_owned()?);
+    let mut bytes = Vec::new();
+    file.take(capture::LONGEST as u64 + 1).read_to_end(&mut bytes)?;
+    Ok(bytes)
 }
 
 fn write_cases(directory: &Path) -> io::Result<()> {

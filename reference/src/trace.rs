@@ -363,7 +363,12 @@ fn read_line(prng: &mut Prng) -> Line {
             _ => bytes.insert(at, prng.below(256) as u8),
         }
     }
-    let room = (source.len() as i64 + prng.within(-2, 9)).max(0) as usize;
+    let mut room = (source.len() as i64 + prng.within(-2, 9)).max(0) as usize;
+    // No bytes, mostly because the cells were not fit to be written: half of them go
+    // into few cells or none. Nothing is drawn for it, so all other lines stay.
+    if bytes.is_empty() && room % 2 == 0 {
+        room = room / 2 % 10;
+    }
     let mut cells = vec![u16::from(OLD); room];
     let answer = read(&bytes, &mut cells);
     let mut line = Line(vec![4]);

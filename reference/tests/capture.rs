@@ -78,26 +78,37 @@ fn longest_capture() {
 
 /// A capture has one form: what is read is written back byte for byte. So a
 /// damaged capture is either refused, with the cells untouched, or is the one
-/// form of the cells it gives.
+/// form of the cells it gives. No bytes are the one exception: they are read as
+/// zero frames, whose form is the mark and a zero.
 #[test]
 fn damaged_captures() {
     let mut prng = Prng(32);
     let mut numbers = [0; 14];
+    let mut without_bytes = 0;
     for _ in 0..60_000 {
         let frames = prng.below(12) as usize;
         let mut bytes = written(&random_cells(&mut prng, frames));
         for _ in 0..prng.within(1, 2) {
+            if bytes.is_empty() {
+                break;
+            }
             let at = prng.below(bytes.len() as u64) as usize;
             let byte = prng.below(256) as u8;
             match prng.below(4) {
                 0 => bytes[at] = byte,
                 1 => bytes[at] ^= 1 << (byte % 8),
                 2 => bytes.insert(at, byte),
-                _ => bytes.truncate(at.max(1)),
+                _ => bytes.truncate(at),
             }
         }
         let mut cells = vec![0xBEEF; 200 * 7];
         let outcome = read(&bytes, &mut cells);
+        if bytes.is_empty() {
+            without_bytes += 1;
+            assert_eq!(outcome, Outcome { number: 0, count: 0 });
+            assert!(cells.iter().all(|&cell| cell == 0xBEEF));
+            continue;
+        }
         numbers[usize::from(outcome.number)] += 1;
         if outcome.number == 0 {
             assert_eq!(written(&cells[..7 * outcome.count]), bytes);
@@ -106,20 +117,23 @@ fn damaged_captures() {
             assert!(cells.iter().all(|&cell| cell == 0xBEEF));
         }
     }
-    println!("outcomes by number: {numbers:?}");
+    println!("outcomes by number: {numbers:?}, and {without_bytes} without bytes");
     for number in [0, 6, 7, 8, 9, 10] {
         assert!(numbers[number] > 100, "{numbers:?}");
     }
+    assert!(without_bytes > 100);
 }
 
-/// Every proper prefix ends early, and no longer tail is accepted.
+/// Every proper prefix ends early but that of no bytes, and no longer tail is
+/// accepted.
 #[test]
 fn prefixes_and_tails() {
     let mut prng = Prng(33);
     for frames in [0, 1, 3, 130] {
         let bytes = written(&random_cells(&mut prng, frames));
         let mut cells = vec![0; 7 * frames];
-        for len in 0..bytes.len() {
+        assert_eq!(read(&bytes[..0], &mut cells), Outcome { number: 0, count: 0 });
+        for len in 1..bytes.len() {
             assert_eq!(read(&bytes[..len], &mut cells).number, 8);
         }
         for tail in [&[0][..], &[0xFF; 3]] {

@@ -1,7 +1,8 @@
 //! The table of stored captures has what it is meant to have.
 
 use reference::{bench_text, cases, played_text, read, restraint};
-use std::collections::{BTreeSet, HashMap};
+use std::collections::{BTreeMap, BTreeSet, HashMap};
+use std::path::Path;
 
 fn text_of(capture: &[u8]) -> String {
     String::from_utf8(bench_text(capture)).unwrap()
@@ -36,6 +37,23 @@ fn names_numbers_and_size() {
         }
     }
     assert!(size < 1_500_000, "{size}");
+}
+
+/// The folder `cases` has the files of the table and no others.
+#[test]
+fn the_folder_is_the_table() {
+    let mut table = BTreeMap::new();
+    for case in cases::all() {
+        table.insert(format!("{}.txt", case.name), bench_text(&case.capture));
+        table.insert(format!("{}.p6k", case.name), case.capture);
+    }
+    let folder = Path::new(env!("CARGO_MANIFEST_DIR")).join("cases");
+    let names: BTreeSet<String> =
+        folder.read_dir().unwrap().map(|entry| entry.unwrap().file_name().into_string().unwrap()).collect();
+    assert_eq!(names, table.keys().cloned().collect());
+    for (name, content) in table {
+        assert!(std::fs::read(folder.join(&name)).unwrap() == content, "{name}");
+    }
 }
 
 #[test]

@@ -188,7 +188,8 @@ fn with_mark(rest: &[u8]) -> Vec<u8> {
 fn refusals_6_to_10_reading() {
     assert_eq!(refused(&[0x50, 0x36, 0x4C, 0]), 6);
     assert_eq!(refused(&[0x51]), 6);
-    assert_eq!(refused(&[]), 8);
+    assert_eq!(refused(&[]), 0, "no bytes are zero frames");
+    assert_eq!(refused(&[0x50]), 8);
     assert_eq!(refused(&[0x50, 0x36]), 8);
     assert_eq!(refused(&MARK), 8);
     assert_eq!(refused(&with_mark(&[0x80])), 8);

@@ -19,7 +19,7 @@ use Rattle.capture.proofs.Found.{both}
 use Rattle.capture.proofs.Widths.{Bytes, bytes-drop, seven-bit}
 use Rattle.capture.proofs.Changes.{sent-received, leads-change}
 use Rattle.writer.specs.Writing.{changes, frameBytes, framesBytes, captureOf}
-use Rattle.reader.specs.Reading.{code, join, codesFrom, frame, frames, markFault, capture}
+use Rattle.reader.specs.Reading.{code, join, codesFrom, frame, frames, markFault, noBytes, capture}
 use Rattle.reader.proofs.Codes.{code-found}
 use Rattle.reader.proofs.Frames.{frame-found, frame-inside}
 use Rattle.reader.proofs.Laws.{captured, captured-length}
@@ -102,14 +102,14 @@ mark-bytes (m ∷ ms) (b ∷ s) e = go (mark-bytes ms s) (eqb b m) refl e
     go ih true p q = λ i. eqb-true b m p i ∷ ih q i
     go ih false p q = absurd (omega arith)
 
--- Accepted bytes are the capture of the cells that they hold.
-pub capture-bytes : (s cells : List ℕ) (size : ℕ) → Bytes s → capture s ≡ found cells size → s ≡ captureOf cells
+-- Accepted bytes are the capture of the cells that they hold, but for the input of no bytes.
+pub capture-bytes : (s cells : List ℕ) (size : ℕ) → Bytes s → (s ≡ noBytes → ⊥) → capture s ≡ found cells size → s ≡ captureOf cells
 unfolding captureOf
-capture-bytes s cells size B e =
-    let C = captured s cells size e in
+capture-bytes s cells size B some e =
+    let C = captured s cells size some e in
     let k = C .count-size in
     let t = drop k (drop 3 s) in
-    let n : C .n ≡ framesIn cells = omega (arith, captured-length s cells size e) in
+    let n : C .n ≡ framesIn cells = omega (arith, captured-length s cells size some e) in
     let G = seven-bit 1 0 zero-le .shortest (drop 3 s) (C .n) k (bytes-drop 3 s B) (C .count-is) in
     let F = frames-bytes (C .n) codesBefore t cells size refl (bytes-drop k (drop 3 s) (bytes-drop 3 s B)) (C .frames-are) in
     let z : drop size t ≡ [] = drop-of-length-le t (C .nothing-after) in

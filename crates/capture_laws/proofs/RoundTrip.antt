@@ -20,7 +20,7 @@ use Rattle.capture.proofs.Widths.{seven-bit}
 use Rattle.capture.proofs.Changes.{sent-below, received-sent, change-leads}
 use Rattle.capture.proofs.Before.{before-in-range}
 use Rattle.writer.specs.Writing.{changes, frameBytes, framesBytes, allFramesBytes, captureOf}
-use Rattle.reader.specs.Reading.{code, codesFrom, frame, frames, markFault, capture}
+use Rattle.reader.specs.Reading.{code, codesFrom, frame, frames, markFault, fromMark, capture}
 
 -- A change and back.
 code-change : (p c : ℕ) (rest : List ℕ) → p < codeLimit → c < codeLimit
@@ -80,7 +80,7 @@ mark-back s = refl
 
 -- The capture of cells holds these cells.
 pub capture-back : (cells : List ℕ) → Sound cells → (size : ℕ) × (capture (captureOf cells) ≡ found cells size)
-unfolding capture captureOf
+unfolding capture fromMark captureOf
 capture-back cells S =
     let n = framesIn cells in
     let fb = allFramesBytes cells in
