@@ -1,5 +1,6 @@
-/* drive WHAT CAPTURE TIMES: runs frames through a fresh relay (frame), reads the capture (read), writes it (write), or reads it and runs its
-   frames (run), so many times; or runs its frames on, all enabled, through one relay with pickups 1 and restraint off (off) or on (on).
+/* drive WHAT CAPTURE TIMES: runs frames through a fresh relay (frame), reads the capture (read), writes it (write), reads it and runs its
+   frames (run), or finds the strongest window of each of the six channels (strongest), so many times; or runs its frames on, all enabled,
+   through one relay with pickups 1 and restraint off (off) or on (on).
    drive generated FRAMES: what crates/relay_check does, over frames of the same small generator. drive restrained FRAMES R: the same with
    all enabled, each pickup 1 and each restraint level R, as a first byte of 128 + R asks of it.
    With -DARCHIVE the proved archive does the work, through its C interface; otherwise the second implementation in C, compiled into this
@@ -19,6 +20,12 @@ static size_t read_capture(const uint8_t *bytes, size_t size, uint16_t *cells, s
 static size_t write_capture(const uint16_t *cells, size_t size, uint8_t *bytes, size_t room)
 {
     return p6k_write(cells, size, bytes, room).count;
+}
+
+static unsigned long strongest(const uint16_t *cells, size_t size, unsigned channel)
+{
+    p6k_strongest_window found = p6k_strongest(cells, size, channel);
+    return found.sum + found.frame;
 }
 
 typedef p6k_relay relay_state;
@@ -56,6 +63,14 @@ static size_t write_capture(const uint16_t *cells, size_t size, uint8_t *bytes, 
     size_t count;
     capture_write(cells, size, bytes, room, &count);
     return count;
+}
+
+static unsigned long strongest(const uint16_t *cells, size_t size, unsigned channel)
+{
+    uint32_t sum;
+    size_t frame;
+    capture_strongest(cells, size, channel, &sum, &frame);
+    return sum + frame;
 }
 
 typedef struct relay relay_state;
@@ -140,6 +155,9 @@ int main(int words, char **word)
             sum += read_capture(capture, size, cells, sizeof cells / sizeof *cells);
         else if (strcmp(word[1], "write") == 0)
             sum += write_capture(cells, 7 * frames, bytes, sizeof bytes);
+        else if (strcmp(word[1], "strongest") == 0)
+            for (unsigned channel = 0; channel < 6; channel++)
+                sum += strongest(cells, 7 * frames, channel);
         else if (word[1][0] == 'o')
             sum += run_on(&relay, cells, frames);
         else

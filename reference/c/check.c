@@ -1,18 +1,24 @@
 /* Reads the lines of `reference trace` on standard input, makes each call with
    the C functions and compares number, relay, amplitudes, cells and bytes. On the
    relay of each accepted reset it also asks the law of Paper 2. An input of no
-   bytes is read twice, the second time from a null pointer. */
+   bytes is read twice, the second time from a null pointer. With a number as its
+   argument it asks that the strongest window was refused so often, by each of 12, 9
+   and 13, and met 7, 8 and 9 frames so often, and 4,096 frames at all. */
 #include "relay.h"
 
 #include <stdio.h>
 #include <stdlib.h>
 #include <string.h>
 
-enum { MOST = 4000, OLD = 0xEE, MASKS = 64 };
+enum { MOST = FRAME_CELLS * (MOST_FRAMES + 1), OLD = 0xEE, MASKS = 64 };
 
 static long line = 1;
 static long pairs = 0;
 static long without_bytes = 0;
+/* Calls of the strongest window: refused ones by number, and by frames, whatever
+   they answered, but of 4,096 frames only those that were accepted. */
+static long strongest_refused[REFUSED_TOO_FEW + 1];
+static long strongest_frames[MOST_FRAMES + 1];
 
 static void differs(const char *what)
 {
@@ -245,10 +251,25 @@ static void check_strongest(void)
     uint32_t sum = 9;
     uint16_t *cells = take_cells(&size);
     unsigned channel = (unsigned)take();
-    same_number(capture_strongest(cells, size, channel, &sum, &frame));
+    int number = capture_strongest(cells, size, channel, &sum, &frame);
+    same_number(number);
     same_number((long)sum);
     same_number((long)frame);
+    strongest_refused[number]++;
+    size_t frames = size / FRAME_CELLS;
+    if (frames < MOST_FRAMES || (frames == MOST_FRAMES && number == 0))
+        strongest_frames[frames]++;
     free(cells);
+}
+
+/* Whether the trace asked enough of the strongest window. */
+static void check_counts(long least)
+{
+    const long *by = strongest_refused, *of = strongest_frames;
+    if (by[REFUSED_SHAPE] < least || by[REFUSED_RANGE] < least || by[REFUSED_TOO_FEW] < least)
+        differs("count of refused strongest windows");
+    if (of[7] < least || of[8] < least || of[9] < least || (least > 0 && of[MOST_FRAMES] == 0))
+        differs("count of frames of strongest windows");
 }
 
 static void check_estimate(void)
@@ -263,7 +284,7 @@ static void check_estimate(void)
         differs("amplitude");
 }
 
-int main(void)
+int main(int argc, char **argv)
 {
     int kind;
     for (; scanf("%d", &kind) == 1; line++) {
@@ -281,6 +302,11 @@ int main(void)
     }
     if (!feof(stdin) || line == 1)
         differs("end");
-    printf("%ld calls agree, %ld pairs of strokes, %ld readings of no bytes\n", line - 1, pairs, without_bytes);
+    check_counts(argc > 1 ? atol(argv[1]) : 0);
+    printf("%ld calls agree, %ld pairs of strokes, %ld readings of no bytes, ", line - 1, pairs, without_bytes);
+    printf("strongest of 7, 8, 9 and %d frames: %ld, %ld, %ld and %ld, ", MOST_FRAMES, strongest_frames[7],
+           strongest_frames[8], strongest_frames[9], strongest_frames[MOST_FRAMES]);
+    printf("refused by 12, 9 and 13: %ld, %ld and %ld\n", strongest_refused[REFUSED_SHAPE],
+           strongest_refused[REFUSED_RANGE], strongest_refused[REFUSED_TOO_FEW]);
     return 0;
 }

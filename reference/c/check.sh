@@ -1,8 +1,9 @@
 #!/bin/sh
 # Compares the C twin with the Rust reference: the bench program on every case,
 # as it is and with restraint 15, and single calls on a random trace, built
-# plainly and with sanitizers. The C bench program prints nothing if its input is
-# a folder, closed, or not open for reading.
+# plainly and with sanitizers. The trace has to have each refusal of the strongest
+# window 100 times, and 7, 8 and 9 frames of it as often. The C bench program prints
+# nothing if its input is a folder, closed, or not open for reading.
 set -eu
 here=$(cd "$(dirname "$0")/.." && pwd)
 cd "$here"
@@ -39,6 +40,6 @@ for build in "-O2" "-O3 -march=native" "-O1 -g -fsanitize=address,undefined -fno
         "$out/bench" $level > "$out/text" 2>&1 0> /dev/null && { echo "$build: an output is read"; exit 1; }
         cmp "$out/text" /dev/null
     done
-    calls=$("$out/check" < "$out/trace") || { echo "$build: $calls"; exit 1; }
+    calls=$("$out/check" 100 < "$out/trace") || { echo "$build: $calls"; exit 1; }
     echo "$build: $count bench texts agree, with and without restraint, $calls"
 done

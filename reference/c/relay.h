@@ -1,5 +1,5 @@
-/* Six-channel phasor relay, after document 01 and Papers 3, 5, 6, 8 and 9 of
-   document 02. Every function answers the document's refusal number, 0 if the
+/* Six-channel phasor relay, after document 01 and Papers 3, 4, 5, 6, 8 and 9
+   of document 02. Every function answers the document's refusal number, 0 if the
    call is accepted. */
 #ifndef RELAY_H
 #define RELAY_H

@@ -1,15 +1,16 @@
 //! Six-channel phasor relay: a second implementation of document 01 and of
-//! Papers 3, 5, 6, 8 and 9 of document 02.
+//! Papers 3, 4, 5, 6, 8 and 9 of document 02.
 //!
 //! It is written for reading and not for speed. Quotations are from document
 //! 01, those on harmonics and restraint from Paper 8, those on the remembered
 //! bit 6 from Paper 5, those on changed levels from Paper 6, the one on zero bytes
-//! from Paper 3, those on run lengths from Paper 9: "Wherever a rule on runs says 16
-//! or 4 it means these." Papers 2 and 14 are laws and change no rule. The one is about
-//! resets: `strokes` and its tests have it. The other is about one channel among six:
-//! `phases` has pairs of lists for it, and `tests/one_phase.rs` asks it. NOTES.md says
-//! how far it is independent of the proved one, and lists the decisions taken where the
-//! words could be read in two ways.
+//! from Paper 3, the one on the step of a rolling sum from Paper 4, those on run lengths
+//! from Paper 9: "Wherever a rule on runs says 16 or 4 it means these." Papers 2 and 14
+//! are laws and change no rule. The one is about resets: `strokes` and its tests have it.
+//! The other is about one channel among six: `phases` has pairs of lists for it, and
+//! `tests/one_phase.rs` asks it. Paper 4 changes no answer: `tests/rolling.rs` has its
+//! law. NOTES.md says how far it is independent of the proved one, and lists the
+//! decisions taken where the words could be read in two ways.
 
 pub mod amplitude;
 pub mod bench;
@@ -28,7 +29,7 @@ pub mod trace;
 
 pub use amplitude::{amplitude, amplitude_of_order, cordic, estimate, re_im, re_im_of_order, sample, Estimate, Window};
 pub use bench::{bench_text, played_text};
-pub use capture::{excerpt, excerpt_place, read, strongest, write, Outcome, Strongest};
+pub use capture::{excerpt, excerpt_place, next_sum, read, strongest, strongest_rolling, write, Outcome, Strongest};
 pub use exact::Exact;
 pub use history::{Call, History, Latch};
 pub use relay::{

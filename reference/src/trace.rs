@@ -3,7 +3,7 @@
 //! Random lists of calls on a fresh relay too, for tests of the history.
 
 use crate::amplitude::{amplitude, amplitude_of_order, estimate, Window, COSINE};
-use crate::capture::{read, strongest, write};
+use crate::capture::{read, strongest, write, CELLS, MOST_FRAMES, WINDOW};
 use crate::history::Call;
 use crate::prng::Prng;
 use crate::relay::{
@@ -215,13 +215,17 @@ fn cells(prng: &mut Prng) -> Vec<u16> {
 pub fn text(lines: usize) -> String {
     let mut prng = Prng(7);
     let mut text = String::new();
+    let mut strongest_calls = 0;
     for _ in 0..lines {
         let line = match prng.below(11) {
             0 => fresh_line(&mut prng),
             1 => reset_line(&mut prng),
             2 => read_line(&mut prng),
             3 => write_line(&mut prng),
-            4 => strongest_line(&mut prng),
+            4 => {
+                strongest_calls += 1;
+                strongest_line(&mut prng, strongest_calls)
+            }
             5 => estimate_line(&mut prng),
             6 => change_line(&mut prng),
             _ => frame_line(&mut prng),
@@ -397,9 +401,61 @@ fn write_line(prng: &mut Prng) -> Line {
     line
 }
 
-fn strongest_line(prng: &mut Prng) -> Line {
-    let cells = cells(prng);
-    let channel = prng.below(7) as usize;
+/// One call in so many of the strongest window has a long capture: few, since such
+/// a line is as long as two hundred others.
+const LONG_SHARE: usize = 500;
+
+/// Long cells and a channel, by their number. Of three in a row one is accepted and
+/// has 4,096 frames, one is refused, and one has 4,089 to 4,095 frames, so that eights
+/// of frames leave some over.
+fn long_arguments(number: usize) -> (Vec<u16>, usize) {
+    let mut prng = Prng(number as u64);
+    let kind = number / 3;
+    let frames = if number % 3 == 2 { MOST_FRAMES - 1 - kind % 7 } else { MOST_FRAMES };
+    let last = frames - 1;
+    // Quiet but for one frame, or two that tie, at the edges of the first and the last
+    // window; else noise.
+    let (first_end, last_start) = (WINDOW - 1, frames - WINDOW);
+    let loud = [
+        vec![0],
+        vec![first_end],
+        vec![first_end + 1],
+        vec![last_start - 1],
+        vec![last_start],
+        vec![last],
+        vec![0, last],
+        vec![first_end + 1, last_start - 1],
+    ];
+    let spread = prng.within(1, 512);
+    let mut cells: Vec<u16> = (0..CELLS * frames)
+        .map(|at| match loud.get(kind % 12) {
+            _ if at % CELLS == 6 => prng.below(128) as u16,
+            Some(loud) if loud.contains(&(at / CELLS)) => 0,
+            Some(_) => 512,
+            None => (512 + prng.within(-spread, spread - 1)) as u16,
+        })
+        .collect();
+    let mut channel = prng.below(6) as usize;
+    if number % 3 == 1 {
+        match kind % 5 {
+            0 => cells.push(512),
+            1 => channel = 6,
+            2 => cells.extend([0; CELLS]),
+            3 => cells[CELLS * last + prng.below(6) as usize] = 1024,
+            _ => cells[CELLS * last + 6] = 128,
+        }
+    }
+    (cells, channel)
+}
+
+/// The `calls`-th call of the strongest window. A long one takes the place of one
+/// that was drawn all the same, so all other lines stay.
+fn strongest_line(prng: &mut Prng, calls: usize) -> Line {
+    let mut cells = cells(prng);
+    let mut channel = prng.below(7) as usize;
+    if calls % LONG_SHARE == 0 {
+        (cells, channel) = long_arguments(calls / LONG_SHARE);
+    }
     let answer = strongest(&cells, channel);
     let mut line = Line(vec![6]);
     line.put(cells.len());

@@ -3,15 +3,17 @@
 use Prim.Native.Nat.{ℕ, zero, suc, _+_, _-_, _*_, _≤_, _<_}
 use mathlib.Core.Path.{_≡_, refl, sym, _∙_, ap}
 use mathlib.Core.List.{List, [], _∷_}
-use lib.ListN.{length, getD, take, drop}
+use mathlib.Core.Bool.{Bool, true, false, cond}
+use lib.ListN.{length, getD, take, drop, List·getD-eq-default}
+use lib.IntN.{natAbs, pos, negsuc}
 use lib.Seq.{drop-cons, getD-drop}
 use native.Mathlib.Nat.{mul-le-mul}
 use native.Mathlib.Numerals.{add-one}
 use native.Mathlib.Omega.{arith}
 use mir.Val.{Fits}
 use mir.Syntax.{w32}
-use borrow.Author.Tests.{le-ltb, lt-ltb, le-leb, lt-leb, ne-eqb}
-use lib.Dec.{leb}
+use borrow.Author.Tests.{le-ltb, lt-ltb, ltb-true, ltb-false, le-leb, lt-leb, ne-eqb}
+use lib.Dec.{ltb, leb}
 use Rattle.refusals.specs.Refusals.{Check, _orElse_, firstFault, accepted, wrongShape, fewFrames}
 use Rattle.frames.specs.Codes.{codeLimit, middleCode, sampleOf}
 use Rattle.frames.specs.Cells.{framesIn, cellChecks}
@@ -20,35 +22,26 @@ use Rattle.frames.proofs.Checks.{cells-sound, cells-refused, cells-passed}
 use Rattle.cells.specs.declared.StrongestWindow.{StrongestWindow}
 use Rattle.cells.specs.Strongest.{squared, channelCodes, codesOf, squares, windowSum, windowFound}
 use Rattle.cells.specs.Strongest.{strongerOf, strongestUpTo, strongestIn, strongestRefusal, strongestOf}
+use Rattle.cells.specs.Rolling.{squareAt, rolledOn, carriedTo}
 use Rattle.cells.specs.Internal.{ChannelRight, mostSquare}
+use Rattle.cells.proofs.Rolling.{leaving-within, square-at, rolled-codes, carried-is}
 
 -- ---- squares
-
-small : (d : ℕ) → d ≤ middleCode → d * d ≤ mostSquare
-small d h = mul-le-mul h h
 
 -- `own` is the square of the code's sample.
 abbrev pub SquareOf : ℕ → ℕ → Type 0
 SquareOf code own = (own ≡ squared (sampleOf code)) × (own ≤ mostSquare)
 
-module _ (code : ℕ) where
-  pub square-low : code < middleCode → Fits w32 ((middleCode - code) * (middleCode - code))
-  square-low h = record { fits = omega (arith, small (middleCode - code) (omega arith)) }
+pub sample-size : (code : ℕ) → code < codeLimit → natAbs (sampleOf code) ≤ middleCode
+sample-size code h = go (ltb code middleCode) refl
+  where
+    go : (t : Bool) → ltb code middleCode ≡ t → natAbs (cond t (negsuc (middleCode - suc code)) (pos (code - middleCode))) ≤ middleCode
+    go true e = omega arith
+    go false e = omega arith
 
-  pub square-high : code < codeLimit → Fits w32 ((code - middleCode) * (code - middleCode))
-  square-high h = record { fits = omega (arith, small (code - middleCode) (omega arith)) }
-
-  pub squared-low : code < middleCode → SquareOf code ((middleCode - code) * (middleCode - code))
-  unfolding squared
-  squared-low h =
-      let e : suc (middleCode - suc code) ≡ middleCode - code = omega arith in
-      (rw (lt-ltb code middleCode h) (rw e), small (middleCode - code) (omega arith))
-
-  pub squared-high : middleCode ≤ code → code < codeLimit → SquareOf code ((code - middleCode) * (code - middleCode))
-  unfolding squared
-  squared-high h l = (rw (le-ltb code middleCode h), small (code - middleCode) (omega arith))
-
-pub ruleset square-cases = (square-low, square-high)
+pub square-small : (code : ℕ) → code < codeLimit → squared (sampleOf code) ≤ mostSquare
+unfolding squared
+square-small code h = mul-le-mul (sample-size code h) (sample-size code h)
 
 -- ---- a channel's codes
 
@@ -128,6 +121,66 @@ module _ (cells : List ℕ) (channel f : ℕ) where
 
 pub ruleset window-cases = (window-begin, window-inside, window-code, window-again, window-done)
 
+-- ---- one window on
+
+squares-small : (n : ℕ) (codes : List ℕ) → ((i : ℕ) → getD codes i 0 < codeLimit) → squares (take n codes) ≤ mostSquare * n
+unfolding squares
+squares-small zero codes all = omega arith
+squares-small (suc n) [] all = omega arith
+squares-small (suc n) (c ∷ codes) all = omega (arith, square-small c (all 0), squares-small n codes (λ i. all (suc i)))
+
+module _ (cells : List ℕ) (channel f : ℕ) (R : ChannelRight cells channel) where
+  -- past the last frame `getD` gives 0
+  code-small : (i : ℕ) → getD (codesOf cells channel) i 0 < codeLimit
+  code-small i = go (ltb i (framesIn cells)) refl
+    where
+      go : (t : Bool) → ltb i (framesIn cells) ≡ t → getD (codesOf cells channel) i 0 < codeLimit
+      go true e = rw (codes-at channel (framesIn cells) cells i (ltb-true _ _ e)) (R .codes i)
+      go false e =
+          let l : length (codesOf cells channel) ≤ i = omega (arith, codes-length channel (framesIn cells) cells, ltb-false i (framesIn cells) e) in
+          rw (List·getD-eq-default (codesOf cells channel) 0 {n = i} l) (omega arith)
+
+  window-small : windowSum (codesOf cells channel) f ≤ mostSquare * 8
+  unfolding windowSum
+  window-small = squares-small 8 (drop f (codesOf cells channel)) (λ i. rw (getD-drop f (codesOf cells channel) i 0) (code-small (f + i)))
+
+  module _ (h : f + 8 < framesIn cells) where
+    square-here : (i own : ℕ) → i < framesIn cells → SquareOf (getD cells (7 * i + channel) 0) own
+        → own ≡ squared (sampleOf (getD (codesOf cells channel) i 0))
+    square-here i own l e = e .0 ∙ ap (λ (c : ℕ). squared (sampleOf c)) (sym (codes-at channel (framesIn cells) cells i l))
+
+    inside : f + 8 < length (codesOf cells channel)
+    inside = omega (arith, codes-length channel (framesIn cells) cells)
+
+    pub entering-inside : 7 * (f + 8) + channel < length cells
+    entering-inside = omega (arith, R .whole, R .channel-is)
+
+    pub leaving-inside : 7 * f + channel < length cells
+    leaving-inside = omega (arith, R .whole, R .channel-is)
+
+    pub entering-code : getD cells (7 * (f + 8) + channel) 0 < codeLimit
+    entering-code = R .codes (f + 8)
+
+    pub leaving-code : getD cells (7 * f + channel) 0 < codeLimit
+    leaving-code = R .codes f
+
+    module _ (sum entering : ℕ) (w : (squareAt (codesOf cells channel) f ≤ sum) × (sum ≤ mostSquare * 8))
+        (e : SquareOf (getD cells (7 * (f + 8) + channel) 0) entering) where
+      pub rolled-fits : Fits w32 (sum + entering)
+      rolled-fits = record { fits = omega (arith, w .1, e .1) }
+
+      module _ (leaving : ℕ) (l : SquareOf (getD cells (7 * f + channel) 0) leaving) where
+        pub rolled-less : leaving ≤ sum + entering
+        rolled-less = omega (arith, w .0, square-here f leaving (omega arith) l, square-at (codesOf cells channel) f (omega (arith, inside)))
+
+        pub rolled-is : sum + entering - leaving ≡ rolledOn (codesOf cells channel) f sum
+        rolled-is =
+            rw (square-here (f + 8) entering (omega arith) e, square-here f leaving (omega arith) l)
+            (sym (rolled-codes (codesOf cells channel) f sum inside))
+
+pub ruleset rolled-cases =
+    (entering-inside, leaving-inside, entering-code, leaving-code, rolled-fits, rolled-less, rolled-is)
+
 -- ---- the loop over the windows
 
 module _ (before : StrongestWindow) (sum f : ℕ) where
@@ -137,9 +190,11 @@ module _ (before : StrongestWindow) (sum f : ℕ) where
   pub stronger-old : sum ≤ before .sum → before ≡ strongerOf before sum f
   stronger-old h = rw (le-ltb (before .sum) sum h)
 
-pub record StrongestRead (cells : List ℕ) (channel : ℕ) (best : StrongestWindow) (f : ℕ) : Type 0 where
+-- The sum is the one carried along to frame f.
+pub record StrongestRead (cells : List ℕ) (channel sum : ℕ) (best : StrongestWindow) (f : ℕ) : Type 0 where
   pub low : f ≤ framesIn cells - 8
   pub right : ChannelRight cells channel
+  pub sum-is : sum ≡ carriedTo (codesOf cells channel) f
   pub is : best ≡ strongestUpTo (codesOf cells channel) f
 
 module _ (cells : List ℕ) (channel : ℕ) where
@@ -147,26 +202,39 @@ module _ (cells : List ℕ) (channel : ℕ) where
   strongest-first R = R .enough
 
   pub strongest-begin : (sum : ℕ) → ChannelRight cells channel → sum ≡ windowSum (codesOf cells channel) 0
-      → StrongestRead cells channel (windowFound accepted sum 0) 0
-  unfolding strongestUpTo
-  strongest-begin sum R e = record { low = omega arith; right = R; is = rw e }
+      → StrongestRead cells channel sum (windowFound accepted sum 0) 0
+  unfolding strongestUpTo carriedTo
+  strongest-begin sum R e = record { low = omega arith; right = R; sum-is = e; is = rw e }
 
-  module _ (best : StrongestWindow) (f : ℕ) (I : StrongestRead cells channel best f) where
+  module _ (sum : ℕ) (best : StrongestWindow) (f : ℕ) (I : StrongestRead cells channel sum best f) where
     pub strongest-right : ChannelRight cells channel
     strongest-right = I .right
 
-    pub strongest-next : f < framesIn cells - 8 → f + 1 + 8 ≤ framesIn cells
+    pub strongest-next : f < framesIn cells - 8 → f + 8 < framesIn cells
     strongest-next h = omega arith
 
-    pub strongest-again : (sum : ℕ) (next : StrongestWindow) → f < framesIn cells - 8 → sum ≡ windowSum (codesOf cells channel) (f + 1)
-        → next ≡ strongerOf best sum (f + 1) → StrongestRead cells channel next (f + 1)
-    unfolding strongestUpTo
-    strongest-again sum next h e q = record { low = omega arith; right = I .right; is = q ∙ rw (e, I .is, add-one f) }
+    sum-here : sum ≡ windowSum (codesOf cells channel) f
+    sum-here = I .sum-is ∙ carried-is (codesOf cells channel) f
+
+    pub strongest-leaving : squareAt (codesOf cells channel) f ≤ sum
+    strongest-leaving = omega (arith, sum-here, leaving-within (codesOf cells channel) f)
+
+    pub strongest-small : sum ≤ mostSquare * 8
+    strongest-small = omega (arith, sum-here, window-small cells channel f (I .right))
+
+    pub strongest-again : (on : ℕ) (next : StrongestWindow) → f < framesIn cells - 8 → on ≡ rolledOn (codesOf cells channel) f sum
+        → next ≡ strongerOf best on (f + 1) → StrongestRead cells channel on next (f + 1)
+    unfolding strongestUpTo carriedTo
+    strongest-again on next h e q =
+        let c : on ≡ carriedTo (codesOf cells channel) (suc f) = e ∙ ap (rolledOn (codesOf cells channel) f) (I .sum-is) in
+        let w : on ≡ windowSum (codesOf cells channel) (suc f) = c ∙ carried-is (codesOf cells channel) (suc f) in
+        record { low = omega arith; right = I .right; sum-is = rw (add-one f) c; is = q ∙ rw (add-one f) (rw (w, I .is)) }
 
     pub strongest-done : framesIn cells - 8 ≤ f → best ≡ strongestUpTo (codesOf cells channel) (framesIn cells - 8)
     strongest-done h = let e : f ≡ framesIn cells - 8 = omega (arith, I .low) in I .is ∙ ap (strongestUpTo (codesOf cells channel)) e
 
-pub ruleset strongest-loop = (strongest-first, strongest-begin, strongest-right, strongest-next, strongest-again, strongest-done)
+pub ruleset strongest-loop =
+    (strongest-first, strongest-begin, strongest-right, strongest-next, strongest-leaving, strongest-small, strongest-again, strongest-done)
 
 -- ---- strongest: the cases as the code returns them
 

@@ -1,3 +1,4 @@
 pub mod Excerpt
 pub mod Strongest
+pub mod Rolling
 pub mod Internal

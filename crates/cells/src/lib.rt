@@ -1,11 +1,12 @@
 // Parts of frames in memory. The entry points are `excerpt` and `strongest`; frames checks the cells.
 ghost use mathlib.Core.Path.{_≡_};
-ghost use Prim.Native.Nat.{_+_, _<_, _≤_};
+ghost use Prim.Native.Nat.{_+_, _*_, _<_, _≤_};
 ghost use Rattle.frames.specs.Codes.{codeLimit, sampleOf};
 ghost use Rattle.frames.specs.Cells.{framesIn};
 ghost use Rattle.cells.specs.Excerpt.{placeOf, Excerpt};
 ghost use Rattle.cells.specs.Strongest.{squared, codesOf, windowSum, windowFound};
 ghost use Rattle.cells.specs.Strongest.{strongerOf, strongestIn, strongestOf};
+ghost use Rattle.cells.specs.Rolling.{squareAt, rolledOn};
 ghost use Rattle.cells.specs.Internal.{ChannelRight, mostSquare};
 
 // A part of the caller's cells, counted in cells: the first of them, and how many there are.
@@ -80,12 +81,8 @@ fn square_of(code: u16) -> u32
     requires { ⌜ code < codeLimit ⌝ }
     ensures { λ r. ⌜ (r ≡ squared (sampleOf code)) × (r ≤ mostSquare) ⌝ }
 {
-    if code < frames::MIDDLE_CODE {
-        let below = (frames::MIDDLE_CODE - code) as u32;
-        return below * below;
-    }
-    let above = (code - frames::MIDDLE_CODE) as u32;
-    above * above
+    let sample = frames::codes::sample(code) as i32;
+    (sample * sample) as u32
 }
 
 // The sum of the eight squared samples of a channel from frame f on.
@@ -103,6 +100,19 @@ fn window_sum(cells: &[u16], channel: usize, f: usize) -> u32
     sum
 }
 
+// From the sum of the window at frame f to that of the window one frame later: the entering square is added, the
+// leaving one taken off. The sum has the leaving square in it, and is at most eight squares.
+fn rolled(cells: &[u16], channel: usize, f: usize, sum: u32) -> u32
+    requires { ⌜ ChannelRight (now cells) channel ⌝ }
+    requires { ⌜ f + 8 < framesIn (now cells) ⌝ }
+    requires { ⌜ (squareAt (codesOf (now cells) channel) f ≤ sum) × (sum ≤ mostSquare * 8) ⌝ }
+    ensures { λ r. ⌜ r ≡ rolledOn (codesOf (now (cells .entry)) channel) f sum ⌝ }
+{
+    let entering = square_of(cells[7 * (f + 8) + channel]);
+    let leaving = square_of(cells[7 * f + channel]);
+    sum + entering - leaving
+}
+
 // The window at frame f in place of the strongest before it, if its sum is larger.
 fn stronger(before: StrongestWindow, sum: u32, f: usize) -> StrongestWindow
     ensures { λ r. ⌜ r ≡ strongerOf before sum f ⌝ }
@@ -117,21 +127,22 @@ fn stronger(before: StrongestWindow, sum: u32, f: usize) -> StrongestWindow
     before
 }
 
-// The first of the strongest windows of a channel.
+// The first of the strongest windows of a channel. Only the first window is summed; the others' sums are carried along.
 fn strongest_window(cells: &[u16], channel: usize) -> StrongestWindow
     requires { ⌜ ChannelRight (now cells) channel ⌝ }
     ensures { λ r. ⌜ r ≡ strongestIn (now (cells .entry)) channel ⌝ }
 {
     let last = cells.len() / 7 - 8;
+    let mut sum = window_sum(cells, channel, 0);
     let mut best = StrongestWindow {
         refusal: refusals::ACCEPTED,
-        sum: window_sum(cells, channel, 0),
+        sum,
         frame: 0,
     };
     let mut f: usize = 0;
     while f < last {
+        sum = rolled(cells, channel, f, sum);
         f += 1;
-        let sum = window_sum(cells, channel, f);
         best = stronger(best, sum, f);
     }
     best

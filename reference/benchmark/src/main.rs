@@ -5,7 +5,7 @@
 
 use reference::bench::SETTINGS;
 use reference::capture::{CELLS, LONGEST, MOST_FRAMES};
-use reference::{bench_text, frame, fresh, read, write, Levels, Relay, Settings};
+use reference::{bench_text, frame, fresh, read, strongest_rolling, write, Levels, Relay, Settings};
 use std::io::{Read, Write};
 
 /// One frame; the sum keeps the work from being dropped and is the same in every language.
@@ -56,8 +56,12 @@ fn drive(what: &str, capture: &[u8], times: u64) -> u64 {
                 let frames = read(capture, &mut cells).count;
                 run(&cells[..CELLS * frames])
             }
+            "strongest" => (0..6)
+                .map(|channel| strongest_rolling(&cells[..CELLS * frames], channel))
+                .map(|found| u64::from(found.sum) + found.frame as u64)
+                .sum(),
             "off" | "on" => run_on(&mut relay, &cells[..CELLS * frames]),
-            _ => panic!("frame, read, write, run, off or on"),
+            _ => panic!("frame, read, write, run, strongest, off or on"),
         };
     }
     sum
