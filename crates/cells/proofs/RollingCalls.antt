@@ -1,4 +1,5 @@
--- Paper 4's step, computed: which square enters, which leaves, both ends of the codes, the first step and the last. Rests on the definitions alone.
+-- Paper 4's step, computed: which square enters, which leaves, both ends of the codes, the first step and the last. Two laws of
+-- Rolling stand here once more, so that neither is given a premise unseen. Rests on the definitions and, for that, on Rolling.
 use Prim.Native.Nat.{ℕ, suc, _+_, _-_, _*_}
 use mathlib.Core.Path.{_≡_, refl}
 use mathlib.Core.List.{List, [], _∷_, _++_, map}
@@ -6,8 +7,9 @@ use lib.ListN.{replicate}
 use native.Mathlib.Omega.{arith}
 use Rattle.lists.proofs.Lists.{upFrom}
 use Rattle.frames.specs.Codes.{sampleOf}
-use Rattle.cells.specs.Strongest.{squared}
+use Rattle.cells.specs.Strongest.{squared, windowSum}
 use Rattle.cells.specs.Rolling.{squareAt, rolledOn, carriedTo}
+use Rattle.cells.proofs.Rolling.{window-rolls, carried-is}
 use Rattle.cells.proofs.Computed.{computed}
 
 abbrev sq : ℕ → ℕ
@@ -44,6 +46,9 @@ pub record RollingCalls : Type 0 where
   -- carried along over three hundred frames, the sums that `windows` of StrongestCalls computes; as eight loud frames go
   pub carried : map (carriedTo (upFrom 512 300)) (0 ∷ 3 ∷ 100 ∷ 200 ∷ 292 ∷ []) ≡ 140 ∷ 380 ∷ 85740 ∷ 331340 ∷ 698604 ∷ []
   pub carried-ends : map (carriedTo (replicate 8 0 ++ replicate 8 512)) (upFrom 0 9) ≡ map (λ f. (8 - f) * 262144) (upFrom 0 9)
+  -- the laws, of any codes and any frame
+  pub step-law : (codes : List ℕ) (f : ℕ) → rolledOn codes f (windowSum codes f) ≡ windowSum codes (f + 1)
+  pub carried-law : (codes : List ℕ) (f : ℕ) → carriedTo codes f ≡ windowSum codes f
 
 pub rollings : RollingCalls
 unfolding computed
@@ -66,4 +71,6 @@ rollings =
       rest = λ a b c d e g h i j sum more. omega arith;
       carried = refl;
       carried-ends = refl;
+      step-law = window-rolls;
+      carried-law = carried-is;
     }
