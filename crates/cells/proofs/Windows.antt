@@ -129,6 +129,10 @@ squares-small zero codes all = omega arith
 squares-small (suc n) [] all = omega arith
 squares-small (suc n) (c ∷ codes) all = omega (arith, square-small c (all 0), squares-small n codes (λ i. all (suc i)))
 
+-- Nine squares have room in 32 bits, whichever is the ninth.
+pub rolled-fits : (sum own : ℕ) → sum ≤ mostSquare * 8 → own ≤ mostSquare → Fits w32 (sum + own)
+rolled-fits sum own a b = record { fits = omega arith }
+
 module _ (cells : List ℕ) (channel f : ℕ) (R : ChannelRight cells channel) where
   -- past the last frame `getD` gives 0
   code-small : (i : ℕ) → getD (codesOf cells channel) i 0 < codeLimit
@@ -164,19 +168,15 @@ module _ (cells : List ℕ) (channel f : ℕ) (R : ChannelRight cells channel) w
     pub leaving-code : getD cells (7 * f + channel) 0 < codeLimit
     leaving-code = R .codes f
 
-    module _ (sum entering : ℕ) (w : (squareAt (codesOf cells channel) f ≤ sum) × (sum ≤ mostSquare * 8))
-        (e : SquareOf (getD cells (7 * (f + 8) + channel) 0) entering) where
-      pub rolled-fits : Fits w32 (sum + entering)
-      rolled-fits = record { fits = omega (arith, w .1, e .1) }
+    module _ (sum entering leaving : ℕ) (w : (squareAt (codesOf cells channel) f ≤ sum) × (sum ≤ mostSquare * 8))
+        (e : SquareOf (getD cells (7 * (f + 8) + channel) 0) entering) (l : SquareOf (getD cells (7 * f + channel) 0) leaving) where
+      pub rolled-less : leaving ≤ sum + entering
+      rolled-less = omega (arith, w .0, square-here f leaving (omega arith) l, square-at (codesOf cells channel) f (omega (arith, inside)))
 
-      module _ (leaving : ℕ) (l : SquareOf (getD cells (7 * f + channel) 0) leaving) where
-        pub rolled-less : leaving ≤ sum + entering
-        rolled-less = omega (arith, w .0, square-here f leaving (omega arith) l, square-at (codesOf cells channel) f (omega (arith, inside)))
-
-        pub rolled-is : sum + entering - leaving ≡ rolledOn (codesOf cells channel) f sum
-        rolled-is =
-            rw (square-here (f + 8) entering (omega arith) e, square-here f leaving (omega arith) l)
-            (sym (rolled-codes (codesOf cells channel) f sum inside))
+      pub rolled-is : sum + entering - leaving ≡ rolledOn (codesOf cells channel) f sum
+      rolled-is =
+          rw (square-here (f + 8) entering (omega arith) e, square-here f leaving (omega arith) l)
+          (sym (rolled-codes (codesOf cells channel) f sum inside))
 
 pub ruleset rolled-cases =
     (entering-inside, leaving-inside, entering-code, leaving-code, rolled-fits, rolled-less, rolled-is)
