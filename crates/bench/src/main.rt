@@ -1,12 +1,14 @@
 // The bench program: reads a capture, makes its report, writes it. No bytes are a capture of zero frames, `frames 0`.
 // Where a read fails no line is printed at all; but an upload cut before its first byte, whose end the system reports
 // and not a failure, looks like a unit that has recorded nothing.
+#![tactic(auto)]
+
 ghost use Rattle.io.specs.Counts.{IsPrefixLen};
 
 use libc::{STDIN_FILENO, STDOUT_FILENO};
 
 // What came in: so many bytes at the front of the buffer, and whether a read failed behind them.
-#[derive(Drop)]
+#[derive(Clone, Copy)]
 struct Input {
     count: usize,
     failed: bool,

@@ -1,5 +1,7 @@
 // The bench program's work on several stored captures: for each its name, then its report. The
 // stored output was made by a second implementation.
+#![tactic(auto)]
+
 use libc::STDOUT_FILENO;
 
 // One capture's name and its report.

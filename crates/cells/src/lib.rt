@@ -1,4 +1,6 @@
 // Parts of frames in memory. The entry points are `excerpt` and `strongest`; frames checks the cells.
+#![tactic(auto)]
+
 ghost use Rattle.std.specs.Prelude.{◌≡◌, ◌+◌, ◌*◌, ◌<◌, ◌≤◌};
 ghost use Rattle.frames.specs.Codes.{code_limit, sample_of};
 ghost use Rattle.frames.specs.Cells.{frames_in};
@@ -10,7 +12,7 @@ ghost use Rattle.cells.specs.Internal.{ChannelRight, most_square};
 
 // A part of the caller's cells, counted in cells: the first of them, and how many there are.
 #[repr(C)]
-#[derive(Drop)]
+#[derive(Clone, Copy)]
 pub struct Part {
     pub start: usize,
     pub length: usize,
@@ -59,7 +61,7 @@ pub fn excerpt(cells: &[u16], f: usize, n: usize) -> &[u16]
 
 // The refusal, 0 where the call is accepted; the largest sum, and the first frame of the first window that has it.
 #[repr(C)]
-#[derive(Drop)]
+#[derive(Clone, Copy)]
 pub struct StrongestWindow {
     pub refusal: u8,
     pub sum: u32,

@@ -2,6 +2,8 @@
 // `requires`, and each is one call, whose contract it has. Structs pass by value, the relay too. An array does not
 // pass by value and a part of a slice does not come back: a struct that holds the array, and start and length, stand
 // in for them.
+#![tactic(auto)]
+
 ghost use Rattle.std.specs.Prelude.{◌≡◌};
 ghost use Rattle.relay.specs.Relay.{fresh_of, frame_of, reset_of, change_of};
 ghost use Rattle.phasor.specs.Estimate.{estimate_of};
@@ -20,21 +22,21 @@ use relay::{ChangeAnswer, FrameAnswer, FreshAnswer, Levels, Relay, ResetAnswer, 
 
 // Six codes in channel order.
 #[repr(C)]
-#[derive(Drop)]
+#[derive(Clone, Copy)]
 pub struct Codes {
     pub codes: [u16; 6],
 }
 
 // Eight samples by slot.
 #[repr(C)]
-#[derive(Drop)]
+#[derive(Clone, Copy)]
 pub struct Samples {
     pub samples: [i16; 8],
 }
 
 // The numbers that a test waveform starts from, the oldest first.
 #[repr(C)]
-#[derive(Drop)]
+#[derive(Clone, Copy)]
 pub struct Numbers {
     pub numbers: [u32; 55],
 }

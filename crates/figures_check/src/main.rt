@@ -1,5 +1,7 @@
 // The bench figures of document 01 that are not theorems, a line for each: the stored output has the
 // document's numbers. Then the five lines of the checklist, `ok` where a check passes.
+#![tactic(auto)]
+
 use frames::bits::bit;
 use libc::STDOUT_FILENO;
 use relay::{FrameAnswer, Lengths, Levels, Relay, Settings};

@@ -1,5 +1,6 @@
 // A frame: six codes and an enable byte, and the same as seven cells in memory. Codes, bits and cells have a file each.
 // Every function here is internal to the project: its callers meet its `requires`.
+#![tactic(auto)]
 
 pub mod bits; // bits.rt: the bits of a byte
 pub mod cells; // cells.rt: a frame as seven cells, and the checks of cells

@@ -1,5 +1,7 @@
 // The same test waveform on every bench (document 02, Paper 12): frames whose codes come from a lagged generator. The
 // entry point is `generate`; every other function is internal, and its callers meet its `requires`.
+#![tactic(auto)]
+
 ghost use Rattle.std.specs.Prelude.{◌≡◌, ◌+◌, ◌*◌, ◌≤◌, length, take};
 ghost use Rattle.std.proofs.lemmas.List.Edits.{sets};
 ghost use Rattle.lists.specs.Put.{Put};

@@ -1,6 +1,8 @@
 // Generated waves with a second harmonic, played to relays with twelve settings of their restraint levels. For each
 // setting a line with the three levels, a line as in the bench program for each frame whose output byte is another
 // than before, and the sum of all that was answered. The stored output was made by a second implementation.
+#![tactic(auto)]
+
 ghost use Rattle.std.specs.Prelude.{◌^◌, ◌<◌};
 
 use libc::STDOUT_FILENO;
@@ -52,7 +54,7 @@ fn drawn(state: u32) -> u16 {
 }
 
 // The peaks of the six channels' fundamentals and second harmonics.
-#[derive(Drop)]
+#[derive(Clone, Copy)]
 struct Peaks {
     first: [u16; 6],
     second: [u16; 6],
@@ -69,7 +71,7 @@ fn second_peak(state: u32, first: u16) -> u16 {
 }
 
 // The state of the generator, and peaks drawn from it.
-#[derive(Drop)]
+#[derive(Clone, Copy)]
 struct Waves {
     state: u32,
     peaks: Peaks,
@@ -172,7 +174,7 @@ fn show_change(n: u16, amplitudes: [u16; 6], output: u8, before: u8) {
 }
 
 // All that goes from frame to frame.
-#[derive(Drop)]
+#[derive(Clone, Copy)]
 struct Play {
     waves: Waves,
     relay: Relay,

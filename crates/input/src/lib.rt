@@ -1,8 +1,10 @@
 // Standard input for the programs: what came in, and whether a read failed behind it. No entry point stands here.
+#![tactic(auto)]
+
 ghost use Rattle.io.specs.Counts.{IsPrefixLen};
 
 // What came in: so many bytes at the front of the buffer, and whether a read failed behind them.
-#[derive(Drop)]
+#[derive(Clone, Copy)]
 pub struct Input {
     pub count: usize,
     pub failed: bool,

@@ -3,6 +3,8 @@
 // lengths that a relay is asked for, in range and out of it: the refusal and the lengths of the relay handed back. Then
 // short scenes, each with a relay of its own, and lines as levels_check has them. The second implementation gives the
 // same text, which the gate compares.
+#![tactic(auto)]
+
 use libc::STDOUT_FILENO;
 use relay::{Channel, FrameAnswer, Lengths, Levels, Relay, Settings};
 

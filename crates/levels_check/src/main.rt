@@ -1,6 +1,8 @@
 // New levels while the relay runs (document 02, Paper 6): twelve short scenes, each with a relay of its own. From frame
 // 72 on a line for each frame: its number, the loss runs, the over runs of the currents, and the output byte; a line
 // for each change. The second implementation gives the same text, which the gate compares.
+#![tactic(auto)]
+
 use libc::STDOUT_FILENO;
 use relay::{Channel, Lengths, Levels, Relay, Settings};
 

@@ -2,6 +2,8 @@
 // four bytes with the lowest first, and writes the capture of the 4,096 frames that they make. All numbers even: the
 // line `refused 24` alone. Not 220 bytes: the line `220 bytes are wanted` alone. A read that fails: nothing at all,
 // which a reader takes for a unit that has recorded nothing.
+#![tactic(auto)]
+
 ghost use Rattle.std.specs.Prelude.{◌≡◌};
 ghost use Rattle.make_capture.specs.Numbers.{number_of, numbers_of};
 

@@ -2,6 +2,8 @@
 // and for the second and third harmonic. The six channels of a relay go through CORDIC side by side, so that the
 // compiler can use the lanes of a vector register; spare lanes hold 0. The entry point is `estimate`. Every other
 // public function is internal to the project: `relay` calls it, and meets its `requires`.
+#![tactic(auto)]
+
 ghost use Rattle.std.specs.Prelude.{◌≡◌, true, ◌≤◌, ◌<◌, ◌^◌, T, pos, nat_abs};
 ghost use Rattle.std.specs.Int.Signed.{non_neg};
 ghost use Rattle.phasor.specs.Window.{window_sound};
@@ -12,26 +14,26 @@ ghost use Rattle.phasor.specs.Estimate.{estimate_of};
 ghost use Rattle.phasor.specs.Internal.{sums_of, with_slot, SlotFits, StepsFit, AllStepsFit, StartsOf, EndsOf};
 
 // A channel's last eight samples, by slot.
-#[derive(Drop)]
+#[derive(Clone, Copy)]
 pub struct Window {
     pub samples: [i16; 8],
 }
 
 // CORDIC's two numbers.
-#[derive(Drop)]
+#[derive(Clone, Copy)]
 struct Point {
     x: i32,
     y: i32,
 }
 
 // Eight points side by side, and four.
-#[derive(Drop)]
+#[derive(Clone, Copy)]
 struct Points {
     x: [i32; 8],
     y: [i32; 8],
 }
 
-#[derive(Drop)]
+#[derive(Clone, Copy)]
 struct FourPoints {
     x: [i32; 4],
     y: [i32; 4],
@@ -39,7 +41,7 @@ struct FourPoints {
 
 // What an estimate answers: its refusal, 0 where it is accepted, and the amplitude in sixteenths of a code.
 #[repr(C)]
-#[derive(Drop)]
+#[derive(Clone, Copy)]
 pub struct EstimateAnswer {
     pub refusal: u8,
     pub amplitude: u16,

@@ -1,6 +1,8 @@
 // The numbers of the refusals (document 01, "Refusals", and those of document 02 that have landed), each once, and the
 // answer of a call that was lent a buffer.
 // No entry point stands here.
+#![tactic(auto)]
+
 ghost use Rattle.std.specs.Prelude.{◌≡◌};
 
 // An accepted call.
@@ -60,7 +62,7 @@ pub const ALL_EVEN: u8 = 24;
 // What a call that was lent a buffer answers: the number of its refusal, 0 where it is accepted, and how many frames or
 // bytes it made.
 #[repr(C)]
-#[derive(Drop)]
+#[derive(Clone, Copy)]
 pub struct Answer {
     pub refusal: u8,
     pub count: usize,

@@ -3,6 +3,8 @@
 // 5), takes new levels while it runs (Paper 6), and counts runs up to lengths that it was made with (Paper 9). Its
 // entry points are `Relay::fresh`, `Relay::frame`, `Relay::reset` and `Relay::change`: each takes any arguments, a
 // relay that is not sound too, and promises its whole answer.
+#![tactic(auto)]
+
 ghost use Rattle.std.specs.Prelude.{◌≡◌};
 ghost use Rattle.relay.specs.Relay.{unused_relay, fresh_of, frame_refusal, accepted_frame, refused_frame, frame_of};
 ghost use Rattle.relay.specs.Relay.{accepted_reset, reset_of, accepted_change, change_of};
@@ -14,7 +16,7 @@ mod steps; // steps.rt: what an accepted call makes of a channel
 
 // One channel: its last eight samples beside its two runs and its two latches.
 #[repr(C)]
-#[derive(Drop)]
+#[derive(Clone, Copy)]
 pub struct Channel {
     pub samples: [i16; 8],
     pub loss_run: u8,
@@ -25,7 +27,7 @@ pub struct Channel {
 
 // The levels of one channel. A voltage has no pickup and no restraint; their places hold 0. Public because the
 // history's definitions name it; no entry point takes or gives one.
-#[derive(Drop)]
+#[derive(Clone, Copy)]
 pub struct ChannelLevels {
     pub drop: u16,
     pub pickup: u16,
@@ -35,7 +37,7 @@ pub struct ChannelLevels {
 
 // What a dispatcher can change: a drop level for each channel, a pickup level and a restraint level for each current.
 #[repr(C)]
-#[derive(Drop)]
+#[derive(Clone, Copy)]
 pub struct Levels {
     pub drop: [u16; 6],
     pub pickup: [u16; 3],
@@ -45,7 +47,7 @@ pub struct Levels {
 // The frames of a full loss run and of a full over run: one pair for the device, fixed when it is made (document 02,
 // Paper 9).
 #[repr(C)]
-#[derive(Drop)]
+#[derive(Clone, Copy)]
 pub struct Lengths {
     pub loss: u8,
     pub over: u8,
@@ -53,7 +55,7 @@ pub struct Lengths {
 
 // All that a relay is made with.
 #[repr(C)]
-#[derive(Drop)]
+#[derive(Clone, Copy)]
 pub struct Settings {
     pub levels: Levels,
     pub lengths: Lengths,
@@ -61,7 +63,7 @@ pub struct Settings {
 
 // `device_on` is bit 6 of the latest accepted frame; a fresh relay has it on.
 #[repr(C)]
-#[derive(Drop)]
+#[derive(Clone, Copy)]
 pub struct Relay {
     pub channels: [Channel; 6],
     pub age: u8,
@@ -72,14 +74,14 @@ pub struct Relay {
 
 // Each answer has its refusal: the documents' number, 0 where the call was accepted.
 #[repr(C)]
-#[derive(Drop)]
+#[derive(Clone, Copy)]
 pub struct FreshAnswer {
     pub relay: Relay,
     pub refusal: u8,
 }
 
 #[repr(C)]
-#[derive(Drop)]
+#[derive(Clone, Copy)]
 pub struct FrameAnswer {
     pub relay: Relay,
     pub refusal: u8,
@@ -88,21 +90,21 @@ pub struct FrameAnswer {
 }
 
 #[repr(C)]
-#[derive(Drop)]
+#[derive(Clone, Copy)]
 pub struct ResetAnswer {
     pub relay: Relay,
     pub refusal: u8,
 }
 
 #[repr(C)]
-#[derive(Drop)]
+#[derive(Clone, Copy)]
 pub struct ChangeAnswer {
     pub relay: Relay,
     pub refusal: u8,
 }
 
 // What an accepted frame makes of the six channels, and its output byte.
-#[derive(Drop)]
+#[derive(Clone, Copy)]
 struct ChannelsAndOutput {
     channels: [Channel; 6],
     output: u8,

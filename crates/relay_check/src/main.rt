@@ -2,6 +2,8 @@
 // frames for each byte on standard input. Where the first byte is 128 or more, all is enabled throughout, each pickup
 // is 1, and what the byte is above 128 is each current's restraint level. The stored output was made by the second
 // implementation; reference/benchmark runs it on other inputs.
+#![tactic(auto)]
+
 ghost use Rattle.std.specs.Prelude.{◌^◌, ◌<◌};
 
 use libc::{STDIN_FILENO, STDOUT_FILENO};
@@ -22,7 +24,7 @@ fn next(state: u64) -> u64
 }
 
 // Six codes, and the generator's state after them.
-#[derive(Drop)]
+#[derive(Clone, Copy)]
 struct Drawn {
     state: u64,
     codes: [u16; 6],

@@ -1,6 +1,8 @@
 // The bench program's lines under restraint levels: each of some stored captures goes to a relay with the bench's
 // levels, and with one restraint level on every current. For each a line with its name and that level, then its
 // report. The stored output was made by a second implementation.
+#![tactic(auto)]
+
 ghost use Rattle.std.specs.Prelude.{◌<◌, ◌≤◌};
 
 use libc::STDOUT_FILENO;

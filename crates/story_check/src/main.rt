@@ -1,5 +1,7 @@
 // A story of two phases that trip, one of which is reset while the other stays tripped: a line for
 // each call. The stored output was made by a second implementation.
+#![tactic(auto)]
+
 use libc::STDOUT_FILENO;
 use relay::{Lengths, Levels, Relay, Settings};
 

@@ -1,5 +1,7 @@
 // Resetting in two strokes (document 02, Paper 2): the one mask for what two masks name. The law, that pressing two
 // masks one after another is pressing their union, is `TwoStrokesLaw` in specs/Strokes.antt.
+#![tactic(auto)]
+
 ghost use Rattle.std.specs.Prelude.{◌≡◌};
 ghost use Rattle.strokes.specs.Strokes.{union_of};
 

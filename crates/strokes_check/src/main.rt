@@ -1,6 +1,8 @@
 // Two phases have tripped and are reset one after the other, in both orders, and at once: the program prints that the
 // relays are equal. Then what is not equal, and every pair of masks. The stored output was made by a second
 // implementation.
+#![tactic(auto)]
+
 ghost use Rattle.std.specs.Prelude.{◌≤◌};
 
 use libc::STDOUT_FILENO;
