@@ -14,7 +14,7 @@ use mir.Val.{Fits}
 use mir.Syntax.{w32}
 use borrow.Author.Tests.{le-ltb, lt-ltb, ltb-true, ltb-false, le-leb, lt-leb, ne_eqb}
 use lib.Dec.{ltb, leb}
-use Rattle.refusals.specs.Refusals.{Check, ◌orElse◌, first_fault, accepted, wrong_shape, few_frames}
+use Rattle.refusals.specs.Refusals.{Check, ◌or_else◌, first_fault, accepted, wrong_shape, few_frames}
 use Rattle.frames.specs.Codes.{code_limit, middle_code, sample_of}
 use Rattle.frames.specs.Cells.{frames_in, cell_checks}
 use Rattle.frames.proofs.Ranges.{ranges_code}

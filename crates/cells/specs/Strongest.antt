@@ -1,7 +1,7 @@
 -- Document 01, "The capture": the strongest window of a channel. Rests on the refusals and on frames.
 use Rattle.std.specs.Prelude.{ℕ, zero, suc, ◌+◌, ◌-◌, ◌*◌, cond, List, [], ◌∷◌, ◌++◌, get_or, take, drop, ltb, leb, eqb, ℤ, nat_abs}
 use Rattle.cells.specs.declared.StrongestWindow.{StrongestWindow}
-use Rattle.refusals.specs.Refusals.{Check, ◌orElse◌, first_fault, accepted, wrong_shape, few_frames}
+use Rattle.refusals.specs.Refusals.{Check, ◌or_else◌, first_fault, accepted, wrong_shape, few_frames}
 use Rattle.frames.specs.Codes.{sample_of}
 use Rattle.frames.specs.Cells.{frames_in, cell_checks}
 

@@ -2,7 +2,7 @@
 -- frames that they are, and the whole outcome of a call of `generate`. Rests on the refusals and on frames.
 use Rattle.std.specs.Prelude.{ℕ, zero, suc, ◌+◌, ◌-◌, ◌*◌, ◌/◌, ◌%◌, ◌^◌, Bool, not, List, [], ◌∷◌, ◌++◌, length, ◌==◌, nat_le, slice_index}
 use Rattle.lists.specs.Each.{every, table}
-use Rattle.refusals.specs.Refusals.{Check, ◌orElse◌, first_fault, out_of_range, does_not_fit, all_even}
+use Rattle.refusals.specs.Refusals.{Check, ◌or_else◌, first_fault, out_of_range, does_not_fit, all_even}
 use Rattle.refusals.specs.Outcomes.{Outcome, outcome_of}
 use Rattle.frames.specs.Cells.{most_frames, cells_of_frame}
 

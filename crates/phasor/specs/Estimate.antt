@@ -2,7 +2,7 @@
 -- "Refused: 19 for an order outside 1 to 3 or a window sample outside −512 to 511, amplitude 0". Rests on Cordic, on
 -- Window and on the refusals.
 use Rattle.std.specs.Prelude.{ℕ, Bool, ◌&&◌, cond, List, [], ◌∷◌, ℤ, leb, eqb}
-use Rattle.refusals.specs.Refusals.{Check, ◌orElse◌, first_fault, accepted, bad_estimate}
+use Rattle.refusals.specs.Refusals.{Check, ◌or_else◌, first_fault, accepted, bad_estimate}
 use Rattle.phasor.specs.declared.EstimateAnswer.{EstimateAnswer}
 use Rattle.phasor.specs.Window.{window_sound}
 use Rattle.phasor.specs.Cordic.{amplitude_of}

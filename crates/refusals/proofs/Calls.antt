@@ -4,7 +4,7 @@ use mathlib.Core.Bool.{true, false}
 use Prim.Native.Nat.{ℕ}
 use mathlib.Core.List.{List, [], ◌∷◌, map}
 use Rattle.refusals.specs.Refusals as refusals
-use Rattle.refusals.specs.Refusals.{◌orElse◌, first_fault}
+use Rattle.refusals.specs.Refusals.{◌or_else◌, first_fault}
 use Rattle.refusals.specs.Outcomes.{outcome_of}
 
 -- Document 01's table, row by row, and document 02's numbers.

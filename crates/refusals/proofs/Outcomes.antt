@@ -6,7 +6,7 @@ use mathlib.Core.Bool.{Bool, true, false, cond}
 use lib.ListN.{length, drop}
 use native.Mathlib.Omega.{arith}
 use borrow.Author.Tests.{ne_eqb}
-use Rattle.refusals.specs.Refusals.{Check, ◌orElse◌, first_fault, accepted}
+use Rattle.refusals.specs.Refusals.{Check, ◌or_else◌, first_fault, accepted}
 use Rattle.refusals.specs.Outcomes.{Outcome, Answered, outcome_of}
 
 -- What stands behind checks of which one fails is not looked at.

@@ -61,9 +61,9 @@ abbrev pub all_even : ℕ  -- "24 if all 55 are even"
 all_even = 24
 
 -- A check: what must hold, and the number of the refusal where it does not.
-infix 20 ◌orElse◌
+infix 20 ◌or_else◌
 pub data Check : Type 0 where
-  ◌orElse◌ : Bool → ℕ → Check
+  ◌or_else◌ : Bool → ℕ → Check
 
 -- The number of the first check that fails, in the order of the list; 0 where none does.
 abbrev pub first_fault : List Check → ℕ

@@ -2,7 +2,7 @@
 -- lists of six made by the rules for channel c, and soundness by its parts. Rests on these rules.
 use Rattle.std.specs.Prelude.{ℕ, Bool, ◌&&◌, List, ◌∷◌, leb, eqb, get_or}
 use Rattle.lists.specs.Each.{every, table}
-use Rattle.refusals.specs.Refusals.{◌orElse◌, first_fault, unsound_relay}
+use Rattle.refusals.specs.Refusals.{◌or_else◌, first_fault, unsound_relay}
 use Rattle.phasor.specs.Lanes.{channel_window}
 use Rattle.phasor.specs.Window.{window_sound}
 use Rattle.phasor.specs.declared.Window.{Window}

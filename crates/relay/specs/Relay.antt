@@ -3,7 +3,7 @@
 -- of Paper 9. Rests on one channel's rules and on what a sound relay is.
 use Rattle.std.specs.Prelude.{ℕ, ◌+◌, Bool, true, false, ◌&&◌, ◌||◌, not, cond, List, [], ◌∷◌, ◌++◌, ℤ, ltb, leb, eqb, get_or, replicate}
 use Rattle.lists.specs.Each.{table}
-use Rattle.refusals.specs.Refusals.{Check, ◌orElse◌, first_fault, accepted}
+use Rattle.refusals.specs.Refusals.{Check, ◌or_else◌, first_fault, accepted}
 use Rattle.refusals.specs.Refusals.{bad_setting, unsound_relay, bad_code, bad_enable, bad_mask, bad_restraint, bad_length}
 use Rattle.frames.specs.Codes.{codes_in_range}
 use Rattle.frames.specs.Bits.{bit_of, bits_below, enabled_in}
