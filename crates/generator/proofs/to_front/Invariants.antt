@@ -1,0 +1,10 @@
+-- A loop that copies 55 numbers to the front; each is read before its place is written.
+use Rattle.std.proofs.Common.{◌-◌}
+use Rattle.generator.proofs.Copies.{Copied}
+use Rattle.generator.proofs.to_front.Given as goal
+
+abbrev pub invariant-loop-k : goal.invariant-loop-k
+invariant-loop-k l = Copied l.initial.numbers l.from l.numbers l.k
+
+abbrev pub decreases-loop-k : goal.decreases-loop-k
+decreases-loop-k l = 55 - l.k

@@ -1,0 +1,11 @@
+-- `phasor::cordic` meets its contract. The loop's invariant: after i turns the point is that of `steps i`, which stays in range.
+use Prim.Native.Nat.{◌≤◌, ◌-◌}
+use mathlib.Core.Path.{◌≡◌}
+use Rattle.phasor.specs.Cordic.{steps}
+use Rattle.phasor.proofs.cordic.Given as goal
+
+abbrev pub invariant-loop-i : goal.invariant-loop-i
+invariant-loop-i l = (l.i ≤ 16) × (l.q ≡ steps l.i l.initial.q)
+
+abbrev pub decreases-loop-i : goal.decreases-loop-i
+decreases-loop-i l = 16 - l.i
