@@ -91,7 +91,7 @@ fn square_of(code: u16) -> u32
 // The sum of the eight squared samples of a channel from frame f on.
 fn window_sum(cells: &[u16], channel: usize, f: usize) -> u32
     requires channel_right { ChannelRight cells.now channel }
-    requires f_bound { f + 8 ≤ frames_in cells.now }
+    requires within { f + 8 ≤ frames_in cells.now }
     ensures { result ≡ window_sum (codes_of cells.now channel) f }
 {
     let mut sum: u32 = 0;
@@ -107,8 +107,8 @@ fn window_sum(cells: &[u16], channel: usize, f: usize) -> u32
 // leaving one taken off. The sum has the leaving square in it, and is at most eight squares.
 fn rolled(cells: &[u16], channel: usize, f: usize, sum: u32) -> u32
     requires channel_right { ChannelRight cells.now channel }
-    requires f_bound { f + 8 < frames_in cells.now }
-    requires f_bound_2 { (square_at (codes_of cells.now channel) f ≤ sum) × (sum ≤ most_square * 8) }
+    requires within { f + 8 < frames_in cells.now }
+    requires sum_fits { (square_at (codes_of cells.now channel) f ≤ sum) × (sum ≤ most_square * 8) }
     ensures { result ≡ rolled_on (codes_of cells.now channel) f sum }
 {
     let entering = square_of(cells[7 * (f + 8) + channel]);

@@ -8,8 +8,8 @@ overflow_add-end c = search excerpt_cases
 pub offset_bounds-cells-start : goal.offset_bounds-cells-start
 offset_bounds-cells-start c = search excerpt_cases
 
-pub UNKNOWN-slice-bounds-result-end : goal.UNKNOWN-slice-bounds-result-end
-UNKNOWN-slice-bounds-result-end c = search excerpt_cases
+pub slice_bounds-result-end : goal.slice_bounds-result-end
+slice_bounds-result-end c = search excerpt_cases
 
 pub returns : goal.returns
 returns c = search excerpt_cases
