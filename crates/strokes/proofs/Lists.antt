@@ -169,7 +169,7 @@ any_order s these those h order =
     let l : EachAccepted those = reordered_accepted order h in
     record {
       answers = list_answers s.relay s.sound those l;
-      all_at_once = ap (reset_of s.relay) (same_union order) ∙ at_once s those l;
+      at_once = ap (reset_of s.relay) (same_union order) ∙ at_once s those l;
     }
 
 -- a list in its own order
