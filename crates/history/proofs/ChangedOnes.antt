@@ -1,7 +1,7 @@
 -- There are relays that take new levels wrongly in the ways that `Wrong` says: ours, with one thing changed in what an accepted change makes of a
 -- relay, or a reset after it, on a list of calls where it shows, computed. Most lists are frames of code 512 under levels of 1, so that a loss run
 -- grows in each counted frame. Rests on Refutations.
-use Prim.Native.Nat.{ℕ, ◌+◌, ◌≤◌, ◌<◌}
+use Prim.Native.Nat.{ℕ, ◌+◌}
 use native.Mathlib.Omega.{arith}
 use mathlib.Core.Path.{◌≡◌, refl, sym, ap, ◌∙◌, subst}
 use mathlib.Core.Bool.{Bool, true, false, ◌&&◌, cond, false≢true}
@@ -18,7 +18,7 @@ use Rattle.relay.specs.declared.ResetAnswer.{ResetAnswer}
 use Rattle.relay.specs.declared.ChangeAnswer.{ChangeAnswer}
 use Rattle.relay.specs.Relay.{channel_at, fresh_of, frame_of, reset_of, change_of}
 use Rattle.relay.proofs.Examples.{bench, equal_levels}
-use Rattle.history.specs.Calls.{Call, frame, reset, change, reset_refused_by, change_refused_by, accepted_frames, Implementation}
+use Rattle.history.specs.Calls.{Call, frame, change, reset_refused_by, change_refused_by, accepted_frames, Implementation}
 use Rattle.history.specs.History.{Event, own_levels, channel_history, resets, resets_before, levels_at, window_at}
 use Rattle.history.specs.Demand.{loss_of, over_of, made_with, relay_after, loss_after, over_after, AcceptedSettings}
 use Rattle.history.specs.WrongRelays.{loss_latch_of, over_latch_of, GoesOn, ChangedLately, Changing, Wrong}

@@ -1,6 +1,6 @@
 -- What demand 3 gives of any implementation that meets it, sentence by sentence, with the documents' levels and numbers written out. Each is a part
 -- of the demand, so that a clause of it cannot be weakened unseen. Rests on the demand's definitions, and for what the age says on Settling.
-use Prim.Native.Nat.{ℕ, ◌+◌, ◌-◌, ◌*◌, ◌≤◌, ◌<◌, min}
+use Prim.Native.Nat.{ℕ, ◌+◌, ◌*◌, ◌≤◌, ◌<◌, min}
 use native.Mathlib.Omega.{arith}
 use mathlib.Core.Path.{◌≡◌, refl, sym, ap, ◌∙◌, subst}
 use mathlib.Core.Logic.{◌↔◌}

@@ -61,11 +61,11 @@ quiet_frames zero = refl
 quiet_frames (suc n) = frames_frame (quiet n) (still 512) 127 taken ∙ ap suc (quiet_frames n)
 
 -- and no change of levels
-no_change_end : (calls : List Call) (codes : Codes) (enable : ℕ) → no_change (calls ++ (frame codes enable ∷ [])) ≡ no_change calls
+no_change_end : (list : List Call) (codes : Codes) (enable : ℕ) → no_change (list ++ (frame codes enable ∷ [])) ≡ no_change list
 no_change_end [] codes enable = refl
-no_change_end (frame a b ∷ calls) codes enable = no_change_end calls codes enable
-no_change_end (reset mask ∷ calls) codes enable = no_change_end calls codes enable
-no_change_end (change new ∷ calls) codes enable = refl
+no_change_end (frame a b ∷ rest) codes enable = no_change_end rest codes enable
+no_change_end (reset mask ∷ rest) codes enable = no_change_end rest codes enable
+no_change_end (change new ∷ rest) codes enable = refl
 
 quiet_changeless : (n : ℕ) → no_change (quiet n) ≡ true
 quiet_changeless zero = refl

@@ -1,7 +1,7 @@
 -- No relay that restrains wrongly (document 02, Paper 8) meets demand 3: what meets it answers as ours does (Unique), and on one list of calls or
 -- another a wrong relay does not. The lists are cycles of eight codes, the same on each channel, so that every window from frame 7 on is the cycle
 -- itself; what ours does on them is computed here. Rests on Unique.
-use Prim.Native.Nat.{ℕ, zero, suc, ◌+◌, ◌-◌, ◌%◌, ◌≤◌, ◌<◌}
+use Prim.Native.Nat.{ℕ, zero, suc, ◌+◌, ◌%◌, ◌≤◌, ◌<◌}
 use native.Mathlib.Omega.{arith}
 use mathlib.Core.Path.{◌≡◌, refl, sym, ◌∙◌, subst}
 use mathlib.Core.Bool.{Bool, true, false, ◌&&◌, ◌||◌, not, false≢true}

@@ -1,6 +1,6 @@
 -- The rule for counted frames, the age and the memory (document 02, Paper 5) on closed lists, computed: from the history's side, each limit and the
 -- frame beside it; and what our relay then has. Rests on the definitions of the rule; that a frame is counted is computed by its age (Settling).
-use Prim.Native.Nat.{ℕ, zero, suc, ◌+◌}
+use Prim.Native.Nat.{ℕ, zero, suc}
 use native.Mathlib.Omega.{arith}
 use mathlib.Core.Path.{◌≡◌, refl}
 use mathlib.Core.Bool.{Bool, true, false, ◌&&◌, not}

@@ -1,7 +1,7 @@
 -- No relay that settles wrongly (document 02, Paper 5) meets demand 3. After a rise at frame t a full run has no frame before t + 72, whatever the
 -- implementation; what it remembers and its age the demand says outright. That there are such relays is in UnsettledOnes. Rests on WentOn and
 -- Settling.
-use Prim.Native.Nat.{ℕ, zero, suc, ◌+◌, ◌-◌, ◌≤◌, ◌<◌, min}
+use Prim.Native.Nat.{ℕ, zero, suc, ◌+◌, ◌≤◌, ◌<◌, min}
 use native.Mathlib.Decide.{dec_lt}
 use native.Mathlib.Omega.{arith}
 use native.Mathlib.Nat.{le_refl}

@@ -1,6 +1,6 @@
 -- There are relays that settle wrongly in the ways that `Wrong` says: ours, with one thing changed, on a list of calls where it shows, computed.
 -- Frames have code 512 and every level is 1, so that a loss run grows in each counted frame. Rests on Refutations.
-use Prim.Native.Nat.{ℕ, zero, suc, ◌+◌, ◌≤◌, ◌<◌}
+use Prim.Native.Nat.{ℕ, zero, suc, ◌+◌, ◌<◌}
 use native.Mathlib.Omega.{arith}
 use mathlib.Core.Path.{◌≡◌, refl, sym, ◌∙◌, subst}
 use mathlib.Core.Bool.{true, false, ◌&&◌, not, cond, false≢true}
@@ -12,7 +12,7 @@ use Rattle.relay.specs.declared.Relay.{Relay}
 use Rattle.relay.specs.declared.FrameAnswer.{FrameAnswer}
 use Rattle.relay.specs.declared.ResetAnswer.{ResetAnswer}
 use Rattle.relay.specs.Relay.{fresh_of, frame_of, reset_of, change_of}
-use Rattle.history.specs.Calls.{Call, frame, reset, frame_refused_by, reset_refused_by, accepted_frames, device_bit, Implementation}
+use Rattle.history.specs.Calls.{Call, frame, frame_refused_by, reset_refused_by, accepted_frames, device_bit, Implementation}
 use Rattle.history.specs.Settling.{rise_in}
 use Rattle.history.specs.Demand.{relay_after, loss_after}
 use Rattle.history.specs.WrongRelays.{Wrong, never_settles, settles_at_fall, counts_the_rise, forgets_at_reset, remembers_refused}

@@ -5,7 +5,7 @@ use native.Mathlib.Omega.{arith}
 use mathlib.Core.Path.{◌≡◌, refl, sym, ap, ◌∙◌, subst}
 use mathlib.Core.Bool.{◌&&◌}
 use mathlib.Core.List.{List}
-use lib.Dec.{T, leb, leb→le}
+use lib.Dec.{T, leb→le}
 use mir.Facts.{and_yes}
 use Rattle.frames.specs.Bits.{bit_of}
 use Rattle.relay.specs.declared.Settings.{Settings}

@@ -1,5 +1,4 @@
 -- The loop keeps `StrongestRead`; the cases are those of Windows.
-use Prim.Native.Nat.{◌-◌}
 use Rattle.cells.proofs.Windows.{strongest_loop}
 use Rattle.cells.proofs.strongest_window.Goals as goal
 

@@ -1,5 +1,4 @@
 -- The loop keeps `WindowRead`; the cases are those of Windows.
-use Prim.Native.Nat.{◌-◌}
 use Rattle.cells.proofs.Windows.{window_cases}
 use Rattle.cells.proofs.window_sum.Goals as goal
 

@@ -1,5 +1,4 @@
 -- A loop that tests one number a turn, and returns at the first odd one.
-use Rattle.std.proofs.Common.{◌-◌}
 use Rattle.lists.proofs.Tested.{passed_cases}
 use Rattle.generator.specs.Generator.{all_are_even}
 use Rattle.generator.proofs.all_even.Goals as goal

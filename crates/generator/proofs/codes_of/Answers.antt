@@ -1,5 +1,4 @@
 -- A loop that fills six codes.
-use Rattle.std.proofs.Common.{◌-◌}
 use Rattle.lists.proofs.Filled.{filled_none, filled_more, filled_all}
 use Rattle.generator.specs.Internal.{codes_of_six}
 use Rattle.generator.proofs.codes_of.Goals as goal

@@ -1,5 +1,4 @@
 -- A loop that fills six numbers.
-use Rattle.std.proofs.Common.{◌-◌}
 use Rattle.lists.proofs.Filled.{filled_none, filled_more, filled_all}
 use Rattle.generator.specs.Internal.{six_sums}
 use Rattle.generator.proofs.next_six.Goals as goal

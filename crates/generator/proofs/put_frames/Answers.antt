@@ -1,5 +1,4 @@
 -- The loop keeps `Going`; the cases are those of Making.
-use Rattle.std.proofs.Common.{◌-◌}
 use Rattle.generator.proofs.Making.{going_cases, going_again}
 use Rattle.generator.proofs.put_frames.Goals as goal
 

@@ -1,5 +1,4 @@
 -- A loop that copies numbers.
-use Rattle.std.proofs.Common.{◌-◌}
 use Rattle.generator.proofs.Copies.{pasted_cases}
 use Rattle.generator.proofs.put_numbers.Goals as goal
 

@@ -1,5 +1,5 @@
 -- The loop keeps `SomePutting`; the cases are those of Making.
-use Rattle.std.proofs.Common.{◌-◌, rules}
+use Rattle.std.proofs.Common.{rules}
 use Rattle.generator.proofs.Making.{some_cases}
 use Rattle.generator.proofs.put_some.Goals as goal
 

@@ -1,5 +1,5 @@
 -- A loop that copies 55 numbers to the front; each is read before its place is written.
-use Rattle.std.proofs.Common.{◌-◌, rules}
+use Rattle.std.proofs.Common.{rules}
 use Rattle.generator.proofs.Copies.{copied_cases}
 use Rattle.generator.proofs.to_front.Goals as goal
 

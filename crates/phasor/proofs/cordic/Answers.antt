@@ -1,5 +1,5 @@
 -- `phasor::cordic` meets its contract. The loop's invariant: after i turns the point is that of `steps i`, which stays in range.
-use Prim.Native.Nat.{ℕ, ◌-◌}
+use Prim.Native.Nat.{ℕ}
 use native.Mathlib.Omega.{arith}
 use native.Mathlib.Numerals.{add-one}
 use mathlib.Core.Path.{◌≡◌, refl, sym, ap, ◌∙◌}

@@ -1,6 +1,5 @@
 -- `phasor::ends` meets its contract: each lane goes through CORDIC.
 use native.Mathlib.Omega.{arith}
-use Prim.Native.Nat.{◌-◌}
 use mathlib.Core.Path.{◌≡◌}
 use Rattle.phasor.proofs.Lanes.{ends_begin, ends_again, lane_x_fits, lane_y_fits, lane_fits}
 use Rattle.phasor.proofs.ends.Goals as goal

@@ -1,6 +1,5 @@
 -- `phasor::four_ends` meets its contract: each lane goes through the sixteen steps.
 use native.Mathlib.Omega.{arith}
-use Prim.Native.Nat.{◌-◌}
 use mathlib.Core.Path.{◌≡◌}
 use Rattle.phasor.proofs.Lanes.{ends_begin, ends_more, lane_x_fits, lane_y_fits}
 use Rattle.phasor.proofs.Lanes.{stepping_begin, step_x, step_y, stepping_again}

@@ -1,6 +1,6 @@
 -- `phasor::fundamental` meets its contract. The loop's invariant: the two sums are those over the slots passed.
 use native.Mathlib.Omega.{arith}
-use Prim.Native.Nat.{◌-◌, ◌≤◌}
+use Prim.Native.Nat.{◌≤◌}
 use mathlib.Core.Path.{◌≡◌}
 use lib.Dec.{lit≤}
 use Rattle.phasor.proofs.Weights.{summing_begin, slot_fits, summing_again, summing_done}

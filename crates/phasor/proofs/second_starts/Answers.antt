@@ -1,6 +1,6 @@
 -- `phasor::second_starts` meets its contract: the lanes are filled one after the other.
 use native.Mathlib.Omega.{arith}
-use Prim.Native.Nat.{◌+◌, ◌-◌}
+use Prim.Native.Nat.{◌+◌}
 use mathlib.Core.Path.{◌≡◌}
 use lib.Dec.{lit≤}
 use Rattle.phasor.specs.Lanes.{current_window}

@@ -1,6 +1,5 @@
 -- `phasor::seconds` meets its contract: the starts, the ends, and then the scaling of each.
 use native.Mathlib.Omega.{arith}
-use Prim.Native.Nat.{◌-◌}
 use mathlib.Core.Path.{◌≡◌}
 use lib.Dec.{lit≤}
 use Rattle.phasor.specs.Lanes.{current_window}

@@ -1,6 +1,5 @@
 -- `phasor::sums` meets its contract. The loop's invariant: the two sums are those over the slots passed.
 use native.Mathlib.Omega.{arith}
-use Prim.Native.Nat.{◌-◌}
 use mathlib.Core.Path.{◌≡◌}
 use Rattle.phasor.proofs.Weights.{summing_begin, slot_fits, summing_again, summing_done}
 use Rattle.phasor.proofs.sums.Goals as goal

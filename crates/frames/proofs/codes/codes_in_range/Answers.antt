@@ -1,5 +1,4 @@
 -- `codes::codes_in_range` meets its contract: a loop that tests one code a turn.
-use Prim.Native.Nat.{◌-◌}
 use Rattle.lists.proofs.Tested.{tested_cases}
 use Rattle.frames.specs.Codes.{codes_in_range}
 use Rattle.frames.proofs.codes.codes_in_range.Goals as goal

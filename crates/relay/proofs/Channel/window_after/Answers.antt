@@ -1,5 +1,5 @@
 -- `Channel::window_after` meets its contract. The invariant of its loop: the sample is stored once its slot is passed.
-use Prim.Native.Nat.{ℕ, ◌+◌, ◌-◌, ◌<◌, ◌≤◌}
+use Prim.Native.Nat.{ℕ, ◌+◌, ◌<◌, ◌≤◌}
 use Rattle.frames.proofs.Samples.{sample_fits}
 use Rattle.frames.specs.Codes.{code_limit, sample_of}
 use Rattle.phasor.specs.declared.Window.{Window}
@@ -11,7 +11,6 @@ use lib.IntN.{ℤ}
 use lib.ListN.{set}
 use mathlib.Core.Bool.{Bool, true, false, cond}
 use mathlib.Core.List.{List}
-use mathlib.Core.Logic.{⊎_elim}
 use mathlib.Core.Path.{◌≡◌, refl, sym, ap, ◌∙◌}
 use mir.Facts.{to_z-of_z}
 use mir.Syntax.{w16}
@@ -50,9 +49,9 @@ loop-k-init c = search begin
 pub loop-k-preserved : goal.loop-k-preserved
 loop-k-preserved c =
     let inv = c.loop-k.invariant in
-    elim c.if-k-slot.branch
-    [ then-k-slot w ↦ rw w.samples-is (own _ _ _ _ _ inv (omega arith) w.if-k-slot.true)
-    | else-k-slot w ↦ rw w.samples-is (other _ _ _ _ _ inv (omega arith) w.if-k-slot.false)
+    elim c.if-k-slot.branch [
+      | then-k-slot w ↦ rw w.samples-is (own _ _ _ _ _ inv (omega arith) w.if-k-slot.true)
+      | else-k-slot w ↦ rw w.samples-is (other _ _ _ _ _ inv (omega arith) w.if-k-slot.false)
     ]
 
 pub returns : goal.returns

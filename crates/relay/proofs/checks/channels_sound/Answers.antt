@@ -1,5 +1,4 @@
 -- `channels_sound` meets its contract. The invariant of its loop: the channels below c are sound.
-use Prim.Native.Nat.{◌-◌}
 use Rattle.lists.proofs.Tested.{passed_none, passed_more, passed_all, failed_at}
 use Rattle.relay.specs.Sound.{channels_sound}
 use Rattle.relay.proofs.checks.channels_sound.Goals as goal

@@ -1,5 +1,4 @@
 -- `states_sound` meets its contract. The invariant of its loop: runs and latches of the channels below c are sound.
-use Prim.Native.Nat.{◌-◌}
 use Rattle.lists.proofs.Tested.{passed_none, passed_more, passed_all, failed_at}
 use Rattle.relay.specs.Internal.{states_sound}
 use Rattle.relay.proofs.checks.states_sound.Goals as goal

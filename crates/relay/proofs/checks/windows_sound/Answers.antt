@@ -1,5 +1,4 @@
 -- `windows_sound` meets its contract. The invariant of its loop: `ok` says whether the windows below c are sound.
-use Prim.Native.Nat.{◌-◌}
 use Rattle.lists.proofs.Tested.{tested_none, tested_more, tested_all}
 use Rattle.relay.specs.Internal.{windows_sound}
 use Rattle.relay.proofs.checks.windows_sound.Goals as goal

@@ -1,5 +1,4 @@
 -- `levels_in_range` meets its contract: a loop that tests one level a turn.
-use Prim.Native.Nat.{◌-◌}
 use Rattle.lists.proofs.Tested.{tested_cases}
 use Rattle.relay.proofs.limits.levels_in_range.Goals as goal
 

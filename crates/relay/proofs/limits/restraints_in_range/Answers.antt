@@ -1,5 +1,4 @@
 -- `restraints_in_range` meets its contract: a loop that tests one restraint a turn.
-use Prim.Native.Nat.{◌-◌}
 use Rattle.lists.proofs.Tested.{tested_cases}
 use Rattle.relay.specs.Settings.{restraints_sound}
 use Rattle.relay.proofs.limits.restraints_in_range.Goals as goal

@@ -1,9 +1,9 @@
 -- `channels_after` meets its contract. The invariant of its loop: below c, the channels and the bits of the output are made.
-use Prim.Native.Nat.{ℕ, ◌+◌, ◌-◌, ◌^◌, ◌<◌, ◌≤◌}
+use Prim.Native.Nat.{ℕ, ◌+◌, ◌^◌, ◌<◌, ◌≤◌}
 use Rattle.frames.proofs.Output.{bits_more, bits_lt}
 use Rattle.frames.specs.Bits.{bits_below, enabled_in}
 use Rattle.lists.proofs.Each.{get_d_table}
-use Rattle.lists.proofs.Filled.{Filled, filled_none, filled_more, filled_all, length_mapped}
+use Rattle.lists.proofs.Filled.{filled_none, filled_more, filled_all, length_mapped}
 use Rattle.phasor.specs.Cordic.{amplitude_of}
 use Rattle.phasor.specs.Lanes.{channel_window, amplitudes_of}
 use Rattle.phasor.specs.declared.Window.{Window}

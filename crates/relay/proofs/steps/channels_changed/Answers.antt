@@ -1,5 +1,5 @@
 -- `channels_changed` meets its contract. The invariant of its loop: the channels below c are made.
-use Prim.Native.Nat.{ℕ, ◌-◌}
+use Prim.Native.Nat.{ℕ}
 use Rattle.lists.proofs.Filled.{filled_none, filled_more, filled_all, length_mapped}
 use Rattle.relay.specs.Channel.{no_channel, carried_over}
 use Rattle.relay.specs.Internal.{changes_of}

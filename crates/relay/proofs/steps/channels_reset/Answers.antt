@@ -1,5 +1,5 @@
 -- `channels_reset` meets its contract. The invariant of its loop: the channels below c are made.
-use Prim.Native.Nat.{ℕ, ◌-◌}
+use Prim.Native.Nat.{ℕ}
 use Rattle.lists.proofs.Filled.{filled_none, filled_more, filled_all, length_mapped}
 use Rattle.frames.specs.Bits.{bit_of}
 use Rattle.relay.specs.Channel.{no_channel, cleared_of}

@@ -6,7 +6,7 @@ use Rattle.lists.proofs.Filled.{Filled, filled_more, filled_all}
 use Rattle.phasor.specs.Cordic.{amplitude_of}
 use Rattle.phasor.specs.Lanes.{channel_window, current_window, amplitudes_of, seconds_of}
 use Rattle.phasor.specs.declared.Window.{Window}
-use Rattle.relay.specs.Settings.{is_current, levels_of, unrestrained, unrestrained_by}
+use Rattle.relay.specs.Settings.{levels_of, unrestrained, unrestrained_by}
 use Rattle.relay.specs.Internal.{unrestrained_at, unrestrained_in}
 use Rattle.relay.specs.declared.Settings.{Settings}
 use borrow.Author.Tests.{leb-true, le-leb}

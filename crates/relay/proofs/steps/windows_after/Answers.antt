@@ -1,5 +1,4 @@
 -- `windows_after` meets its contract. The invariant of its loop: the windows below c are made.
-use Prim.Native.Nat.{◌-◌}
 use Rattle.lists.proofs.Filled.{filled_none, filled_more, filled_all}
 use Rattle.frames.proofs.Ranges.{codes_below}
 use Rattle.relay.specs.Internal.{windows_of}
