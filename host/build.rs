@@ -1,4 +1,4 @@
-//! Links the archive of proved code. It does not prove it: `rt staticlib export`, at the repository's root, does, and the gate runs that
+//! Links the archive of proved code. It does not prove it: `rt lib` in crates/export does, and the gate runs that
 //! first, so that a proof never hides in a build. An archive that is missing, or older than a source, is refused.
 
 use std::path::{Path, PathBuf};
@@ -8,13 +8,13 @@ fn main() {
     let root = PathBuf::from(std::env::var("CARGO_MANIFEST_DIR").unwrap()).join("..");
     let folder = match std::env::var("EXPORT_LIB_DIR") {
         Ok(folder) => PathBuf::from(folder),
-        Err(_) => root.join("target/staticlib"),
+        Err(_) => root.join("crates/export/out"),
     };
     let archive = folder.join("libexport.a");
     println!("cargo:rerun-if-env-changed=EXPORT_LIB_DIR");
     println!("cargo:rerun-if-changed={}", archive.display());
     let Ok(made) = std::fs::metadata(&archive).and_then(|file| file.modified()) else {
-        panic!("no {}: run `rt staticlib export` first", archive.display());
+        panic!("no {}: run `rt lib` in crates/export first", archive.display());
     };
     refuse_newer(&root.join("crates"), made);
     println!("cargo:rustc-link-search=native={}", folder.display());
@@ -22,15 +22,18 @@ fn main() {
 }
 
 fn refuse_newer(folder: &Path, made: SystemTime) {
-    println!("cargo:rerun-if-changed={}", folder.display());
     for entry in std::fs::read_dir(folder).unwrap() {
         let path = entry.unwrap().path();
         if path.is_dir() {
-            refuse_newer(&path, made);
+            // What rt makes stands in out/, and holds no source.
+            if path.file_name().is_some_and(|name| name != "out") {
+                println!("cargo:rerun-if-changed={}", path.display());
+                refuse_newer(&path, made);
+            }
         } else if path.extension().is_some_and(|extension| extension == "rt")
             && std::fs::metadata(&path).unwrap().modified().unwrap() > made
         {
-            panic!("{} is newer than the archive: run `rt staticlib export` again", path.display());
+            panic!("{} is newer than the archive: run `rt lib` in crates/export again", path.display());
         }
     }
 }

@@ -1,4 +1,4 @@
-/* The proved six-channel phasor relay, for C: link target/staticlib/libexport.a, which `rt staticlib export` makes.
+/* The proved six-channel phasor relay, for C: link crates/export/out/libexport.a, which `rt lib` in crates/export makes.
  *
  * Every function is total: its contract, proved, says the whole answer for whatever values it is handed, refusals
  * included. An answer's `refusal` is one of p6k_refusal; where several checks fail, the first in the order that the

@@ -29,12 +29,12 @@ fn cases() -> Vec<(String, Vec<u8>, Vec<u8>)> {
 
 /// What the program writes where its input comes in pieces of so many bytes, with a pause after each of the first `pauses`.
 fn bench(input: &[u8], piece: usize, pauses: usize) -> Vec<u8> {
-    let program = root().join("target/bin/bench");
+    let program = root().join("crates/bench/out/bench");
     let mut child = Command::new(&program)
         .stdin(Stdio::piped())
         .stdout(Stdio::piped())
         .spawn()
-        .unwrap_or_else(|error| panic!("{}: {error}: run `rt check bench` first", program.display()));
+        .unwrap_or_else(|error| panic!("{}: {error}: run `rt run` in crates/bench first", program.display()));
     let mut stdin = child.stdin.take().unwrap();
     let pieces: Vec<Vec<u8>> = input.chunks(piece).map(<[u8]>::to_vec).collect();
     // A thread, so that neither side waits on a full pipe. The program may stop reading early: it wants no more than 53,254 bytes.
@@ -95,7 +95,7 @@ fn example() {
 
 /// What the program writes where its input is this one; never anything to standard error.
 fn on(input: impl Into<Stdio>) -> String {
-    let output = Command::new(root().join("target/bin/bench")).stdin(input).output().unwrap();
+    let output = Command::new(root().join("crates/bench/out/bench")).stdin(input).output().unwrap();
     assert!(output.stderr.is_empty());
     String::from_utf8(output.stdout).unwrap()
 }
@@ -126,7 +126,7 @@ fn no_bytes() {
 fn a_read_that_fails_prints_no_line() {
     assert_eq!(on(std::fs::File::open(root()).unwrap()), "");
     assert_eq!(on(std::fs::OpenOptions::new().write(true).open("/dev/null").unwrap()), "");
-    let closed = Command::new("sh").args(["-c", "exec \"$0\" <&-"]).arg(root().join("target/bin/bench")).output().unwrap();
+    let closed = Command::new("sh").args(["-c", "exec \"$0\" <&-"]).arg(root().join("crates/bench/out/bench")).output().unwrap();
     assert!(closed.stdout.is_empty() && closed.stderr.is_empty());
     for (bytes, text) in [(&b""[..], "frames 0\n"), (b"P6", "refused 8\n"), (b"P6K\0", "frames 0\n"), (b"?", "refused 6\n")] {
         assert_eq!(on(socket(bytes, false)), text);

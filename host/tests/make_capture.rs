@@ -10,7 +10,7 @@ use std::path::{Path, PathBuf};
 use std::process::{Command, Stdio};
 
 fn program(name: &str) -> PathBuf {
-    Path::new(env!("CARGO_MANIFEST_DIR")).join("../target/bin").join(name)
+    Path::new(env!("CARGO_MANIFEST_DIR")).join("../crates").join(name).join("out").join(name)
 }
 
 /// What a program writes where its input is this one; never anything to standard error.

@@ -49,7 +49,7 @@ fn show_refusal(refusal: u8) {
     io::write_all(STDOUT_FILENO, b"\n");
 }
 
-// Writes the frames as a capture to standard output. Those that were made are never refused here (`made-fits`).
+// Writes the frames as a capture to standard output. Those that were made are never refused here (`made_fits`).
 fn show_capture(cells: &[u16]) {
     let mut bytes = [0u8; capture::LONGEST];
     let written = writer::write(cells, &mut bytes);
