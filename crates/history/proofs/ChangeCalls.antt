@@ -26,7 +26,7 @@ use Rattle.history.specs.Calls.{device_bits, in_force, the_relay, handed_back, a
 use Rattle.history.specs.History.{Event, sampled, cleared, changed, own_levels, channel_history, frames, resets, resets_before}
 use Rattle.history.specs.History.{levels_at, changes_before, window_at, InEach, FullRun, FullRunMeeting, LatchOn}
 use Rattle.history.specs.Demand.{loss_of, over_of, PossiblyOver, OverMargins, relay_after, loss_after, over_after}
-use Rattle.history.specs.WrongRelays.{no_change, run_of_windows, Latch, loss_latch_of, over_latch_of, latch_in, length_of, kind_of, Differ}
+use Rattle.history.specs.WrongRelays.{no_change, run_of_windows, Latch, the_loss_latch, the_over_latch, latch_in, length_of, kind_of, Differ}
 use Rattle.history.specs.WrongRelays.{GoesOn, number_of, calls_of, full_length, ChangedLately, Unmet, Changing, given, changed_to, ClearsRun}
 use Rattle.history.proofs.Computed.{computed}
 use Rattle.history.proofs.FullRuns.{meets_in, in_each_lem, full_run, full_meeting}
@@ -153,7 +153,7 @@ abbrev resting : Relay
 resting = settled_in (replicate 8 (pos 0)) ones
 
 abbrev loss_from72 : List Call → ℕ
-loss_from72 calls = first_on loss_latch_of 0 72 resting calls
+loss_from72 calls = first_on the_loss_latch 0 72 resting calls
 
 abbrev wave : Settings
 wave = equal_levels 1 1603
@@ -167,7 +167,7 @@ in_wave = settled_in wave_window wave
 
 -- three frames of a wave, some calls, and five frames more
 abbrev over_from72 : List Call → ℕ
-over_from72 calls = first_on over_latch_of 3 72 in_wave (waves 72 3 (calls ++ waves 75 5 []))
+over_from72 calls = first_on the_over_latch 3 72 in_wave (waves 72 3 (calls ++ waves 75 5 []))
 
 -- levels of the wave: drop, pickup and r of channel 3
 abbrev of_wave : ℕ → ℕ → ℕ → Call
@@ -175,7 +175,7 @@ of_wave drop pickup r = change (levels (set (replicate 6 1) 3 drop) (pickup ∷ 
 
 -- the loss latch and the over latch of channel 3, and the over latch of channel 2
 abbrev latches_of : Relay → List Bool
-latches_of r = latch_in loss_latch_of r 3 ∷ latch_in over_latch_of r 3 ∷ latch_in over_latch_of r 2 ∷ []
+latches_of r = latch_in the_loss_latch r 3 ∷ latch_in the_over_latch r 3 ∷ latch_in the_over_latch r 2 ∷ []
 
 -- ---- full runs and margins
 
@@ -326,10 +326,10 @@ pub record ChangeCalls : Type 0 where
   pub clear_margin_lem : (was now : Bool) → OverMargins (equal_levels 1 10700) 3 (struck_to [] 398) was now → T now
   pub near_margin_lem : ¬ OverMargins (equal_levels 1 398) 3 falling false true
   -- our relay after 72 frames: what is said from there on is said of the whole list
-  pub at_rest : (calls : List Call) (c : ℕ) → loss_after the_relay ones (stills 72 calls) c ≡ latch_in loss_latch_of (after the_relay resting calls) c
-  pub in_wave_lem : (calls : List Call) (c : ℕ) → over_after the_relay wave (waves 0 72 calls) c ≡ latch_in over_latch_of (after the_relay in_wave calls) c
+  pub at_rest : (calls : List Call) (c : ℕ) → loss_after the_relay ones (stills 72 calls) c ≡ latch_in the_loss_latch (after the_relay resting calls) c
+  pub in_wave_lem : (calls : List Call) (c : ℕ) → over_after the_relay wave (waves 0 72 calls) c ≡ latch_in the_over_latch (after the_relay in_wave calls) c
   -- "loss latches in frame 87": also with changes right before frames 0 and 10, and before frame 72
-  pub early : first_on loss_latch_of 0 0 (relay_after the_relay ones []) (two ∷ stills 10 (one ∷ stills 78 [])) ≡ 87
+  pub early : first_on the_loss_latch 0 0 (relay_after the_relay ones []) (two ∷ stills 10 (one ∷ stills 78 [])) ≡ 87
   pub at_72 : loss_from72 (two ∷ stills 16 []) ≡ 87
   -- before frame 73 the run begins anew, and before frame 87
   pub at_73 : loss_from72 (stills 1 (two ∷ stills 16 [])) ≡ 88
@@ -338,7 +338,7 @@ pub record ChangeCalls : Type 0 where
   pub there_and_back : loss_from72 (stills 8 (two ∷ one ∷ stills 16 [])) ≡ 95
   pub back_later : loss_from72 (stills 8 (two ∷ stills 1 (one ∷ stills 16 []))) ≡ 96
   -- only a pickup moved before frame 80, and all drops after frame 87
-  pub kept_run : table 6 (latch_in loss_latch_of (after the_relay resting (stills 8 (picked_up ∷ stills 8 (of_drop 2 ∷ []))))) ≡ replicate 6 true
+  pub kept_run : table 6 (latch_in the_loss_latch (after the_relay resting (stills 8 (picked_up ∷ stills 8 (of_drop 2 ∷ []))))) ≡ replicate 6 true
   -- over latches in frame 75; with a change right before it, above m: in no frame up to 79; below m, there and back, of r: in 78; of the drop: in 75
   pub over_none : over_from72 [] ≡ 75
   pub over_above : over_from72 (of_wave 1 1604 0 ∷ []) ≡ 80
@@ -349,7 +349,7 @@ pub record ChangeCalls : Type 0 where
   -- refused by 1 and by 20
   pub over_refused : (over_from72 (of_wave 1 10701 0 ∷ []) ≡ 75) × (over_from72 (of_wave 1 1603 101 ∷ []) ≡ 75)
   -- "latches .. carry over", where the new level would not have tripped
-  pub over_stays : latch_in over_latch_of (after the_relay in_wave (waves 72 4 (of_wave 1 1604 0 ∷ waves 76 1 []))) 3 ≡ true
+  pub over_stays : latch_in the_over_latch (after the_relay in_wave (waves 72 4 (of_wave 1 1604 0 ∷ waves 76 1 []))) 3 ≡ true
   -- the words of WrongRelays: a change stands in the list, accepted or refused, last or not
   pub unchanged : (no_change [] ≡ true) × (no_change (stills 2 (reset 1 ∷ stills 1 [])) ≡ true)
   pub changes_seen : (no_change tale ≡ false) × (no_change (stills 1 (reset 1 ∷ two ∷ [])) ≡ false)
@@ -359,11 +359,11 @@ pub record ChangeCalls : Type 0 where
       × ((test : List ℤ → Bool) (l : ChannelLevels) (w : List ℤ) → (run_of_windows 7 test).meets l w ≡ test w)
       × ((old new : ChannelLevels) → (run_of_windows 7 (λ w. false)).same old new ≡ true)
   -- each latch with its own run, length and own level
-  pub kinds : (kind_of loss_latch_of ≡ loss_of) × (kind_of over_latch_of ≡ over_of) × (length_of loss_latch_of bench ≡ 16) × (length_of over_latch_of bench ≡ 4)
+  pub kinds : (kind_of the_loss_latch ≡ loss_of) × (kind_of the_over_latch ≡ over_of) × (length_of the_loss_latch bench ≡ 16) × (length_of the_over_latch bench ≡ 4)
   pub latches : latches_of (after the_relay in_wave (waves 72 4 [])) ≡ false ∷ true ∷ false ∷ []
-  pub loss_differs : Differ loss_latch_of (own 2 3 4 true) (own 1 3 4 true) × ¬ Differ loss_latch_of (own 2 3 4 true) (own 2 1 5 false)
-  pub over_differs : Differ over_latch_of (own 2 3 4 true) (own 2 1 4 true) × Differ over_latch_of (own 2 3 4 true) (own 2 3 1 true)
-      × ¬ Differ over_latch_of (own 2 3 4 true) (own 1 3 4 false)
+  pub loss_differs : Differ the_loss_latch (own 2 3 4 true) (own 1 3 4 true) × ¬ Differ the_loss_latch (own 2 3 4 true) (own 2 1 5 false)
+  pub over_differs : Differ the_over_latch (own 2 3 4 true) (own 2 1 4 true) × Differ the_over_latch (own 2 3 4 true) (own 2 3 1 true)
+      × ¬ Differ the_over_latch (own 2 3 4 true) (own 1 3 4 false)
   -- the relay that a change is given, and the one that it hands back
   pub changing : (g : Changing the_relay) → (given g ≡ relay_after the_relay g.settings g.past)
       × (changed_to g ≡ (change_of (given g) g.new).relay)
@@ -376,7 +376,7 @@ pub record ChangeCalls : Type 0 where
       → Differ g.latch (own_levels (in_force g.settings.levels before) g.channel) (own_levels new g.channel)
       → accepted_frames between + 2 ≡ full_length g → ChangedLately g
   -- the frame in which the latch goes on can be the one that did not meet its level
-  pub unmet_there : (g : GoesOn the_relay) → g.latch ≡ over_latch_of
+  pub unmet_there : (g : GoesOn the_relay) → g.latch ≡ the_over_latch
       → (let es : List Event = channel_history g.channel (calls_of g) in
       ¬ T (meets_in (kind_of g.latch g.settings.lengths) (own_levels g.settings.levels g.channel) es (number_of g)) → Unmet g (number_of g))
 
@@ -474,7 +474,7 @@ change_calls =
         another = d;
         few = omega (arith, n);
       };
-      unmet_there = λ g e no-level. record { up_to = omega arith; in_run = rw e (omega (arith, g.accepted.over_length)); fails = no-level };
+      unmet_there = λ g e no_level. record { up_to = omega arith; in_run = rw e (omega (arith, g.accepted.over_length)); fails = no_level };
     }
   where
     es : List Event

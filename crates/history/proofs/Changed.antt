@@ -21,7 +21,7 @@ use Rattle.history.specs.Calls.{Call, frame, reset, change, change_refused_by, a
 use Rattle.history.specs.History.{Event, sampled, changed, input_of, own_levels, channel_history, frames, levels_at, changes_before, window_at}
 use Rattle.history.specs.History.{InEach, FullRunMeeting, LatchOn}
 use Rattle.history.specs.Demand.{made_with, relay_after, AcceptedSettings, Demanded}
-use Rattle.history.specs.WrongRelays.{Latch, loss_latch_of, over_latch_of, latch_in, latch_after, length_of, kind_of, Differ, GoesOn, number_of, calls_of, full_length, kind_in, made_in, events}
+use Rattle.history.specs.WrongRelays.{Latch, the_loss_latch, the_over_latch, latch_in, latch_after, length_of, kind_of, Differ, GoesOn, number_of, calls_of, full_length, kind_in, made_in, events}
 use Rattle.history.specs.WrongRelays.{ChangedLately, Unmet, Changing, given, changed_to, ClearsRun}
 use Rattle.history.proofs.Channel.{went_on}
 use Rattle.history.proofs.History.{◌▷◌, frames_append, changes_append, changes_end, changes_le}
@@ -32,8 +32,8 @@ use Rattle.history.proofs.WentOn.{frames_are, run_ends, some}
 
 -- levels that differ in a run's own level are not the same to it
 differ_same : (latch : Latch) (lengths : Lengths) (old new : ChannelLevels) → Differ latch old new → (kind_of latch lengths).same old new ≡ false
-differ_same loss_latch_of lengths old new d = ne_eqb old.drop new.drop d
-differ_same over_latch_of lengths old new d = by (eqb old.pickup new.pickup) (eqb old.restraint new.restraint) refl refl
+differ_same the_loss_latch lengths old new d = ne_eqb old.drop new.drop d
+differ_same the_over_latch lengths old new d = by (eqb old.pickup new.pickup) (eqb old.restraint new.restraint) refl refl
   where
     by : (a b : Bool) → eqb old.pickup new.pickup ≡ a → eqb old.restraint new.restraint ≡ b → a && b ≡ false
     by true true p q = absurd (d (eqb-true old.pickup new.pickup p, eqb-true old.restraint new.restraint q))
@@ -41,15 +41,15 @@ differ_same over_latch_of lengths old new d = by (eqb old.pickup new.pickup) (eq
     by false b p q = refl
 
 run_len : (latch : Latch) (lengths : Lengths) → (kind_of latch lengths).len ≡ length_of latch lengths
-run_len loss_latch_of lengths = refl
-run_len over_latch_of lengths = refl
+run_len the_loss_latch lengths = refl
+run_len the_over_latch lengths = refl
 
 module _ (d : Implementation) (meets : Demanded d) where
   -- the rule for either latch
   pub on_rule : (settings : Settings) → AcceptedSettings settings → (calls : List Call) (latch : Latch) (c : ℕ) → c < 6
       → T (latch_after d latch settings calls c) ↔ LatchOn (kind_of latch settings.lengths) (made_with settings c) (channel_history c calls)
-  on_rule settings ok calls loss_latch_of c h = (relay_says d meets settings ok calls).loss_latch_of c h
-  on_rule settings ok calls over_latch_of c h = (relay_says d meets settings ok calls).over_latch_of c h
+  on_rule settings ok calls the_loss_latch c h = (relay_says d meets settings ok calls).loss_latch c h
+  on_rule settings ok calls the_over_latch c h = (relay_says d meets settings ok calls).over_latch c h
 
   -- ---- what carries over
 
@@ -75,10 +75,10 @@ module _ (d : Implementation) (meets : Demanded d) where
         ∙ ap read (after_end the_relay (the_relay.fresh g.settings).relay g.past (change g.new)) ∙ kept ∙ sym before
 
     pub moves_latch_lem : (latch : Latch) (c : ℕ) → c < 6 → latch_in latch (changed_to g) c ≡ latch_in latch (given g) c
-    moves_latch_lem loss_latch_of c h =
-        carried (λ (r : Relay). (channel_at r c).loss_latch) ((same calls).loss_latch_of c h) (over.loss_latch_of c h) ((same g.past).loss_latch_of c h)
-    moves_latch_lem over_latch_of c h =
-        carried (λ (r : Relay). (channel_at r c).over_latch) ((same calls).over_latch_of c h) (over.over_latch_of c h) ((same g.past).over_latch_of c h)
+    moves_latch_lem the_loss_latch c h =
+        carried (λ (r : Relay). (channel_at r c).loss_latch) ((same calls).loss_latch c h) (over.loss_latch_of c h) ((same g.past).loss_latch c h)
+    moves_latch_lem the_over_latch c h =
+        carried (λ (r : Relay). (channel_at r c).over_latch) ((same calls).over_latch c h) (over.over_latch_of c h) ((same g.past).over_latch c h)
 
     pub ages_anew_lem : (changed_to g).age ≡ (given g).age
     ages_anew_lem = carried (λ (r : Relay). r.age) (same calls).age over.age (same g.past).age

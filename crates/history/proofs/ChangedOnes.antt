@@ -21,7 +21,7 @@ use Rattle.relay.proofs.Examples.{bench, equal_levels}
 use Rattle.history.specs.Calls.{Call, frame, change, reset_refused_by, change_refused_by, accepted_frames, Implementation}
 use Rattle.history.specs.History.{Event, own_levels, channel_history, resets, resets_before, levels_at, window_at}
 use Rattle.history.specs.Demand.{loss_of, over_of, made_with, relay_after, loss_after, over_after, AcceptedSettings}
-use Rattle.history.specs.WrongRelays.{loss_latch_of, over_latch_of, GoesOn, ChangedLately, Changing, Wrong}
+use Rattle.history.specs.WrongRelays.{the_loss_latch, the_over_latch, GoesOn, ChangedLately, Changing, Wrong}
 use Rattle.history.specs.WrongRelays.{moves_latch, keeps_changed, clears_run, judges_old, ages_anew, forgets_at_change, forgets_change, refuses_change}
 use Rattle.history.proofs.Computed.{computed}
 use Rattle.history.proofs.FullRuns.{run_in, meets_in, full_meeting}
@@ -231,13 +231,13 @@ at d past new e = record { settings = ones; accepted = calls.lowest; past = past
 pub changed_ones : ChangedOnes
 changed_ones =
     record {
-      latches_cleared = moves_latch (at unlatching (quiet 88) dropped facts.taken.0) loss_latch_of 0 (omega arith)
+      latches_cleared = moves_latch (at unlatching (quiet 88) dropped facts.taken.0) the_loss_latch 0 (omega arith)
           (λ e. false≢true (sym facts.unlatched.1 ∙ e ∙ facts.unlatched.0));
-      latched_at_once = moves_latch (at hasty [] dropped facts.taken.0) loss_latch_of 0 (omega arith)
+      latched_at_once = moves_latch (at hasty [] dropped facts.taken.0) the_loss_latch 0 (omega arith)
           (λ e. false≢true (sym facts.latched.0 ∙ sym e ∙ facts.latched.1));
       runs_kept = keeps_changed (early keeping facts.kept.0 facts.kept.1) (lately keeping facts.kept.0 facts.kept.1);
       runs_kept_where_met = keeps_changed (early lenient facts.kept_met.0 facts.kept_met.1) (lately lenient facts.kept_met.0 facts.kept_met.1);
-      runs_cleared = clears_run loss_latch_of (record {
+      runs_cleared = clears_run the_loss_latch (record {
         settings = ones;
         accepted = calls.lowest;
         before = quiet 80;
@@ -294,7 +294,7 @@ changed_ones =
           codes = still 512;
           enable = 127;
           taken = calls.middle_taken.0;
-          latch = over_latch_of;
+          latch = the_over_latch;
           channel = 3;
           is_channel = lit< tt;
           was = λ t. subst T facts.judged.0 t;

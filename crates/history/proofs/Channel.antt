@@ -276,8 +276,8 @@ module _ (loss_kind over_kind : Kind) where
 
   pub record ChannelIs (made : ChannelLevels) (es : List Event) (t : Clock) (ch : Channel) : Type 0 where
     pub samples : ch.samples ≡ window_of es (frames es)
-    pub loss_count : RunIs loss_kind made es ch.loss_run ch.loss_latch
-    pub over_count : RunIs over_kind made es ch.over_run ch.over_latch
+    pub loss_run : RunIs loss_kind made es ch.loss_run ch.loss_latch
+    pub over_run : RunIs over_kind made es ch.over_run ch.over_latch
     pub clock : ClockIs es t
 
 -- an event that is no frame leaves the window
@@ -287,21 +287,21 @@ samples_other es e none samples s =
     s ∙ sym (window_other es e none (frames es)) ∙ ap (λ (l : List Input). window_of (es ▷ e) (length l)) (sym (inputs_other es e none))
 
 -- its latches go by the rule
-module _ (loss_kind over_kind : Kind) (loss-some : 0 < loss_kind.len) (over-some : 0 < over_kind.len) (made : ChannelLevels) where
+module _ (loss_kind over_kind : Kind) (loss_some : 0 < loss_kind.len) (over_some : 0 < over_kind.len) (made : ChannelLevels) where
   module _ {es : List Event} {t : Clock} {ch : Channel} (v : ChannelIs loss_kind over_kind made es t ch) where
     pub loss_rule : T ch.loss_latch ↔ LatchOn loss_kind made es
-    loss_rule = latch_rule loss_kind made loss-some es ch.loss_run ch.loss_latch v.loss_count
+    loss_rule = latch_rule loss_kind made loss_some es ch.loss_run ch.loss_latch v.loss_run
 
     pub over_rule : T ch.over_latch ↔ LatchOn over_kind made es
-    over_rule = latch_rule over_kind made over-some es ch.over_run ch.over_latch v.over_count
+    over_rule = latch_rule over_kind made over_some es ch.over_run ch.over_latch v.over_run
 
   pub channel_fresh : ChannelIs loss_kind over_kind made [] fresh_clock fresh_channel
   unfolding fresh_channel window_of table
   channel_fresh =
       record {
         samples = refl;
-        loss_count = run_fresh loss_kind made loss-some;
-        over_count = run_fresh over_kind made over-some;
+        loss_run = run_fresh loss_kind made loss_some;
+        over_run = run_fresh over_kind made over_some;
         clock = clock_fresh;
       }
 
@@ -310,8 +310,8 @@ module _ (loss_kind over_kind : Kind) (loss-some : 0 < loss_kind.len) (over-some
     channel_cleared =
         record {
           samples = samples_other es cleared refl ch.samples v.samples;
-          loss_count = run_cleared loss_kind made loss-some es;
-          over_count = run_cleared over_kind made over-some es;
+          loss_run = run_cleared loss_kind made loss_some es;
+          over_run = run_cleared over_kind made over_some es;
           clock = clock_other es cleared refl t v.clock;
         }
 
@@ -321,8 +321,8 @@ module _ (loss_kind over_kind : Kind) (loss-some : 0 < loss_kind.len) (over-some
     channel_changed old new e =
         rw e (record {
           samples = samples_other es (changed new) refl ch.samples v.samples;
-          loss_count = run_changed loss_kind made es new ch.loss_run ch.loss_latch v.loss_count;
-          over_count = run_changed over_kind made es new ch.over_run ch.over_latch v.over_count;
+          loss_run = run_changed loss_kind made es new ch.loss_run ch.loss_latch v.loss_run;
+          over_run = run_changed over_kind made es new ch.over_run ch.over_latch v.over_run;
           clock = clock_other es (changed new) refl t v.clock;
         })
 
@@ -332,10 +332,10 @@ module _ (loss_kind over_kind : Kind) (loss-some : 0 < loss_kind.len) (over-some
     channel_sampled levels l i =
         record {
           samples = window ∙ rw frames_sampled;
-          loss_count = run_sampled loss_kind made es i loss-some ch.loss_run ch.loss_latch (counted_by t i.bit6) levels _ counted l window
-              v.loss_count;
-          over_count = run_sampled over_kind made es i over-some ch.over_run ch.over_latch (counted_by t i.bit6) levels _ counted l window
-              v.over_count;
+          loss_run = run_sampled loss_kind made es i loss_some ch.loss_run ch.loss_latch (counted_by t i.bit6) levels _ counted l window
+              v.loss_run;
+          over_run = run_sampled over_kind made es i over_some ch.over_run ch.over_latch (counted_by t i.bit6) levels _ counted l window
+              v.over_run;
           clock = clock_sampled es i t v.clock;
         }
       where

@@ -15,7 +15,7 @@ use Rattle.relay.specs.declared.Relay.{Relay}
 use Rattle.history.specs.Calls.{Call, frame, reset, change, accepted_frames, the_relay}
 use Rattle.history.specs.History.{channel_history, resets_before, changes_before, levels_at, window_at, Counted, Enabled}
 use Rattle.history.specs.Demand.{loss_of, over_of, made_with, LossOn, OverOn, relay_after, AcceptedSettings}
-use Rattle.history.specs.WrongRelays.{BenchLengths, Latch, loss_latch_of, over_latch_of, run_held, length_of, other, kind_of, latch_after, GoesOn, number_of, calls_of}
+use Rattle.history.specs.WrongRelays.{BenchLengths, Latch, the_loss_latch, the_over_latch, run_held, length_of, other, kind_of, latch_after, GoesOn, number_of, calls_of}
 use Rattle.history.specs.WrongRelays.{full_length, other_length, kind_in, made_in, events, met_in, ByRunOf, Late}
 use Rattle.history.proofs.Computed.{computed}
 use Rattle.history.proofs.FullRuns.{full_meeting}
@@ -65,9 +65,9 @@ pub record LengthCalls : Type 0 where
   pub off_bench : ¬ BenchLengths (counting 4 16) × ¬ BenchLengths (counting 16 5) × ¬ BenchLengths (counting 15 4)
   -- each kind of run has its own length
   pub own_length : ((loss_of (lengths 3 7)).len ≡ 3) × ((over_of (lengths 3 7)).len ≡ 7)
-  pub of_latch : (length_of loss_latch_of (lengths 3 7) ≡ 3) × (length_of over_latch_of (lengths 3 7) ≡ 7)
-  pub others : (other loss_latch_of ≡ over_latch_of) × (other over_latch_of ≡ loss_latch_of)
-  pub held_runs : (run_held loss_latch_of uneven 5 ≡ 3) × (run_held over_latch_of uneven 5 ≡ 7) × (run_held over_latch_of uneven 4 ≡ 0)
+  pub of_latch : (length_of the_loss_latch (lengths 3 7) ≡ 3) × (length_of the_over_latch (lengths 3 7) ≡ 7)
+  pub others : (other the_loss_latch ≡ the_over_latch) × (other the_over_latch ≡ the_loss_latch)
+  pub held_runs : (run_held the_loss_latch uneven 5 ≡ 3) × (run_held the_over_latch uneven 5 ≡ 7) × (run_held the_over_latch uneven 4 ≡ 0)
   -- "fixed when it is made"
   pub fixed : table 6 (λ n. (relay_after the_relay (counting 7 19) (first_of n busy)).settings.lengths) ≡ replicate 6 (lengths 7 19)
   -- the frame that makes the run full is frame 72 at length 1 and 95 at length 24, by the rule; that our relay's latches go by it is the theorem

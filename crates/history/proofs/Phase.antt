@@ -55,7 +55,7 @@ module _ (loss_kind over_kind : Kind) where
   played_append p (e ∷ es) fs = played_append (step p e) es fs
 
   -- it is as the history says
-  module _ (loss-some : 0 < loss_kind.len) (over-some : 0 < over_kind.len) (made : ChannelLevels) where
+  module _ (loss_some : 0 < loss_kind.len) (over_some : 0 < over_kind.len) (made : ChannelLevels) where
     pub record PhaseIs (es : List Event) (p : Phase) : Type 0 where
       pub channel : ChannelIs loss_kind over_kind made es p.clock p.channel
       pub levels : p.levels ≡ levels_at made es (frames es)
@@ -68,17 +68,17 @@ module _ (loss_kind over_kind : Kind) where
     step_is : (es : List Event) (p : Phase) → PhaseIs es p → (e : Event) → PhaseIs (es ▷ e) (step p e)
     step_is es p v (sampled i) =
         record {
-          channel = channel_sampled loss_kind over_kind loss-some over-some made es p.clock p.channel v.channel p.levels v.levels i;
+          channel = channel_sampled loss_kind over_kind loss_some over_some made es p.clock p.channel v.channel p.levels v.levels i;
           levels = v.levels ∙ sym (levels_after es (sampled i));
         }
     step_is es p v cleared =
         record {
-          channel = channel_cleared loss_kind over_kind loss-some over-some made es p.clock p.channel v.channel;
+          channel = channel_cleared loss_kind over_kind loss_some over_some made es p.clock p.channel v.channel;
           levels = v.levels ∙ sym (levels_after es cleared);
         }
     step_is es p v (changed new) =
         record {
-          channel = channel_changed loss_kind over_kind loss-some over-some made es p.clock p.channel v.channel p.levels new v.levels;
+          channel = channel_changed loss_kind over_kind loss_some over_some made es p.clock p.channel v.channel p.levels new v.levels;
           levels = sym (levels_after es (changed new));
         }
 
@@ -89,7 +89,7 @@ module _ (loss_kind over_kind : Kind) where
     pub played_is : (es : List Event) → PhaseIs es (played (fresh_phase made) es)
     played_is es =
         from [] es (fresh_phase made)
-        (record { channel = channel_fresh loss_kind over_kind loss-some over-some made; levels = refl })
+        (record { channel = channel_fresh loss_kind over_kind loss_some over_some made; levels = refl })
 
 -- ---- a fresh relay
 

@@ -28,7 +28,7 @@ use Rattle.history.specs.History.{channel_history, Counted}
 use Rattle.history.specs.Demand.{relay_after, loss_after, AcceptedSettings, Demanded}
 use Rattle.history.specs.WrongRelays.{no_change, BenchLengths, EachFrame, EachReset, FixedLatches, Wrong, never_trips, unaltered, fixed_amplitude}
 use Rattle.history.specs.WrongRelays.{fixed_latches, restarts_age, grows_disabled, one_too_many, refuses_settings, refuses_reset}
-use Rattle.history.specs.WrongRelays.{loss_latch_of, GoesOn, other_length}
+use Rattle.history.specs.WrongRelays.{the_loss_latch, GoesOn, other_length}
 use Rattle.history.specs.WrongRelays.{ignores_restraint, not_strict, third_harmonic, keeps_run, restrains_loss, anothers_restraint}
 use Rattle.history.specs.WrongRelays.{never_settles, settles_at_fall, counts_the_rise, forgets_at_reset, remembers_refused}
 use Rattle.history.specs.WrongRelays.{moves_latch, keeps_changed, clears_run, judges_old, ages_anew, forgets_at_change, forgets_change, refuses_change}
@@ -40,7 +40,7 @@ use Rattle.history.proofs.Clock.{bit6_in}
 use Rattle.history.proofs.Computed.{computed}
 use Rattle.history.proofs.Relay.{frames_frame, after_end, device_same, bit_before, bit_last}
 use Rattle.history.proofs.Restraint as restraint
-use Rattle.history.proofs.RunLengths as run-lengths
+use Rattle.history.proofs.RunLengths as run_lengths
 use Rattle.history.proofs.Settling.{always_on}
 use Rattle.history.proofs.Unsettled as unsettled
 use Rattle.history.proofs.WentOn as went_on
@@ -96,7 +96,7 @@ module _ (d : Implementation) (meets : Demanded d) where
   relay_same = same_relay d meets ones in_range
 
   latch_same : (calls : List Call) → loss_after d ones calls 0 ≡ loss_after the_relay ones calls 0
-  latch_same calls = (relay_same calls).loss_latch_of 0 (omega arith)
+  latch_same calls = (relay_same calls).loss_latch 0 (omega arith)
 
   frame_same : (past : List Call) (code : ℕ) → SameAnswer (d.frame (relay_after d ones past) (replicate 6 code) 127) (answer_to past code)
   frame_same past code = same_frame d meets ones in_range past (still code) 127
@@ -178,12 +178,12 @@ refuted d (ages_anew g wrong) meets = wrong (changed.ages_anew_lem d meets g)
 refuted d (forgets_at_change g wrong) meets = wrong (changed.forgets_at_change_lem d meets g)
 refuted d (forgets_change settings ok past mask e wrong) meets = wrong (changed.forgets_change_lem d meets settings ok past mask)
 refuted d (refuses_change g wrong) meets = wrong ((answer_says d meets g.settings g.accepted g.past (change g.new)).0 g.taken)
-refuted d (exchanges_lengths g shorter run) meets = run-lengths.short_run d meets g (other_length g) shorter run
-refuted d (cuts_length g longer run) meets = run-lengths.short_run d meets g 16 longer run
-refuted d (trips_late latch wrong) meets = run-lengths.trips_late_lem d meets latch wrong
-refuted d (trips_early g len shorter run) meets = run-lengths.short_run d meets g len shorter run
-refuted d (grows_on settings ok calls latch c h wrong) meets = run-lengths.grows_on_lem d meets settings ok calls latch c h wrong
-refuted d (alters_lengths settings ok past call wrong) meets = wrong (run-lengths.alters_lengths_lem d meets settings ok past call)
+refuted d (exchanges_lengths g shorter run) meets = run_lengths.short_run d meets g (other_length g) shorter run
+refuted d (cuts_length g longer run) meets = run_lengths.short_run d meets g 16 longer run
+refuted d (trips_late latch wrong) meets = run_lengths.trips_late_lem d meets latch wrong
+refuted d (trips_early g len shorter run) meets = run_lengths.short_run d meets g len shorter run
+refuted d (grows_on settings ok calls latch c h wrong) meets = run_lengths.grows_on_lem d meets settings ok calls latch c h wrong
+refuted d (alters_lengths settings ok past call wrong) meets = wrong (run_lengths.alters_lengths_lem d meets settings ok past call)
 
 -- ---- there are such relays: ours, with one thing changed in what accepted calls answer; a frame refused by 3 or 4 is answered as it should be
 
@@ -303,7 +303,7 @@ goes_on_in d settings ok past enable e was now =
       codes = still 512;
       enable = enable;
       taken = e;
-      latch = loss_latch_of;
+      latch = the_loss_latch;
       channel = 0;
       is_channel = omega arith;
       was = λ t. subst T was t;

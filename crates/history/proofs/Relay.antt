@@ -223,8 +223,8 @@ current_at c (change new ∷ calls) made e n =
     by : (b : Bool) → (levels_at (own_levels new c) (channel_history c calls) n).current ≡ leb 3 c
         → (levels_at made (channel_history c calls) n).current ≡ leb 3 c
         → (levels_at made (cond b (changed (own_levels new c) ∷ []) [] ++ channel_history c calls) n).current ≡ leb 3 c
-    by true new-rest rest = new-rest
-    by false new-rest rest = rest
+    by true new_rest rest = new_rest
+    by false new_rest rest = rest
 
 -- ---- the relay
 

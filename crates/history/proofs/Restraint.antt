@@ -64,7 +64,7 @@ shown test s calls c = (runs test s calls c && met test s calls c) && not (over_
 module _ (d : Implementation) (meets : Demanded d) where
   pub over_same : (s : Settings) → AcceptedSettings s → (calls : List Call) (c : ℕ) → c < 6 → over_after the_relay s calls c ≡ false
       → ¬ T (over_after d s calls c)
-  over_same s ok calls c h off t = subst T ((same_relay d meets s ok calls).over_latch_of c h ∙ off) t
+  over_same s ok calls c h off t = subst T ((same_relay d meets s ok calls).over_latch c h ∙ off) t
 
   trips : (test : Settings → List ℤ → Bool) (s : Settings) → BenchLengths s → (calls : List Call) → no_change calls ≡ true → (c : ℕ) → c < 6
       → shown test s calls c ≡ true → ¬ TripsBy d c test
@@ -273,7 +273,7 @@ module _ (d : Implementation) (meets : Demanded d) (k : ℕ) (h : k < 3) where
       e = every_at 3 lost facts.losing k h
 
       on : loss_after d dropping long (k + 3) ≡ true
-      on = (same_relay d meets dropping accepted.drops.accepted long).loss_latch_of (k + 3) (omega arith) ∙ and_left _ _ e
+      on = (same_relay d meets dropping accepted.drops.accepted long).loss_latch (k + 3) (omega arith) ∙ and_left _ _ e
 
       -- a full run of 16 in 88 frames begins in frame 72
       no : ¬ LatchOn (loss_tested dropping k) (made_with dropping (k + 3)) es

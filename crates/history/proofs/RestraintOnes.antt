@@ -84,11 +84,11 @@ module _ (make : Making) where
   -- ---- a claim about each channel, its history of the calls and the clock, that each call keeps
 
   module _ (settings : Settings) (ok : AcceptedSettings settings) (Holds : ℕ → List Event → Clock → Channel → Type 0)
-      (at-fresh : (c : ℕ) → Holds c [] fresh_clock fresh_channel)
+      (at_fresh : (c : ℕ) → Holds c [] fresh_clock fresh_channel)
       (at_frame : (c : ℕ) (es : List Event) (t : Clock) (code : ℕ) (channel_bit bit6 : Bool) (ch : Channel) → Holds c es t ch
       → Holds c (es ▷ sampled (record { sample = sample_of code; channel_bit = channel_bit; bit6 = bit6 })) (ticked t bit6)
       (make settings c t.slot (counted_by t bit6) (channel_bit && bit6) code ch))
-      (at-reset : (c : ℕ) (es : List Event) (t : Clock) (ch : Channel) → Holds c es t ch → Holds c (es ▷ cleared) t (cleared_of ch))
+      (at_reset : (c : ℕ) (es : List Event) (t : Clock) (ch : Channel) → Holds c es t ch → Holds c (es ▷ cleared) t (cleared_of ch))
     where
       pub record Is (calls : List Call) (r : Relay) : Type 0 where
         pub channel : (c : ℕ) → c < 6 → Holds c (channel_history c calls) (clock_of r) (channel_at r c)
@@ -96,7 +96,7 @@ module _ (make : Making) where
 
       fresh_so : Is [] (fresh_relay settings)
       unfolding unused_relay
-      fresh_so = record { channel = λ c h. rw (fresh_channel_lem settings c h) (at-fresh c); held = refl }
+      fresh_so = record { channel = λ c h. rw (fresh_channel_lem settings c h) (at_fresh c); held = refl }
 
       frame_so : (calls : List Call) (r : Relay) (codes : Codes) (enable : ℕ) → frame_refused_by codes.list enable ≡ 0 → Is calls r
           → Is (calls ++ (frame codes enable ∷ [])) (framed r codes.list enable).relay
@@ -119,7 +119,7 @@ module _ (make : Making) where
         where
           named : (c : ℕ) (b : Bool) → Holds c (channel_history c calls) (clock_of r) (channel_at r c)
               → Holds c (channel_history c calls ++ cond b (cleared ∷ []) []) (clock_of r) (cond b (cleared_of (channel_at r c)) (channel_at r c))
-          named c true w = at-reset c (channel_history c calls) (clock_of r) (channel_at r c) w
+          named c true w = at_reset c (channel_history c calls) (clock_of r) (channel_at r c) w
           named c false w = rw append-nil w
 
       call_so : (calls : List Call) (r : Relay) (call : Call) → no_change (call ∷ []) ≡ true → Dec (refusal_of call ≡ 0) → Is calls r
@@ -446,7 +446,7 @@ module _ (settings : Settings) (c : ℕ) where
 
 -- the relay whose runs are kept fits its kind
 keeps_run_lem : (k : ℕ) → k < 3 → KeepsRun (making keeps) k
-keeps_run_lem k h settings ok calls none j e run after fed over not-fed last =
+keeps_run_lem k h settings ok calls none j e run after fed over not_fed last =
     v.on j e (λ n a b. live n a (omega arith) (feeds n (fed n a b))) held_at (live (j + 4) (omega arith) (omega arith) (feeds (j + 4) last))
   where
     es : List Event
@@ -475,7 +475,7 @@ keeps_run_lem k h settings ok calls none j e run after fed over not-fed last =
           r.counted,
           r.enabled,
           rw (three, ← back k) (holds_back (over_pickup k settings (window_at es (j + 3)))
-              (harmonic_test (get_or settings.levels.restraint k 0) (window_at es (j + 3))) over not-fed),
+              (harmonic_test (get_or settings.levels.restraint k 0) (window_at es (j + 3))) over not_fed),
           r.not_separated ∙ after,
         )
 

@@ -14,7 +14,7 @@ use Rattle.relay.proofs.RunLengths.{SoundLengths, sound_lengths}
 use Rattle.history.specs.Calls.{Call, Implementation, handed_back}
 use Rattle.history.specs.History.{InRun}
 use Rattle.history.specs.Demand.{relay_after, AcceptedSettings, Demanded}
-use Rattle.history.specs.WrongRelays.{Latch, loss_latch_of, over_latch_of, length_of, run_held, GoesOn, number_of, full_length, kind_in, made_in, events, met_in}
+use Rattle.history.specs.WrongRelays.{Latch, the_loss_latch, the_over_latch, length_of, run_held, GoesOn, number_of, full_length, kind_in, made_in, events, met_in}
 use Rattle.history.specs.WrongRelays.{ByRunOf, Late}
 use Rattle.history.proofs.Changed.{on_rule, judges_old_lem}
 use Rattle.history.proofs.Laws.{relay_says}
@@ -84,5 +84,5 @@ module _ (d : Implementation) (meets : Demanded d) where
       up_to_lem = sound_lengths r (relay_says d meets settings ok calls).sound
 
       by : (latch : Latch) → ¬ (length_of latch r.settings.lengths < run_held latch r c)
-      by loss_latch_of above = omega (arith, above, up_to_lem.loss_count c h)
-      by over_latch_of above = omega (arith, above, up_to_lem.over_count c h)
+      by the_loss_latch above = omega (arith, above, up_to_lem.loss_count c h)
+      by the_over_latch above = omega (arith, above, up_to_lem.over_count c h)

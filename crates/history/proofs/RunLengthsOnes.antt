@@ -20,7 +20,7 @@ use Rattle.relay.proofs.Examples.{bench}
 use Rattle.history.specs.Calls.{Call, frame, change, Implementation, frame_refused_by, accepted_frames}
 use Rattle.history.specs.History.{Event, channel_history, input_at, levels_at, window_at, resets, resets_before}
 use Rattle.history.specs.Demand.{loss_of, over_of, made_with, relay_after, loss_after, over_after, AcceptedSettings}
-use Rattle.history.specs.WrongRelays.{loss_latch_of, over_latch_of, run_held, Wrong, refuses_settings, exchanges_lengths, cuts_length, trips_late, trips_early}
+use Rattle.history.specs.WrongRelays.{the_loss_latch, the_over_latch, run_held, Wrong, refuses_settings, exchanges_lengths, cuts_length, trips_late, trips_early}
 use Rattle.history.specs.WrongRelays.{grows_on, alters_lengths}
 use Rattle.history.proofs.Computed.{computed}
 use Rattle.history.proofs.FullRuns.{run_in, meets_in, full_meeting}
@@ -180,10 +180,10 @@ record Facts : Type 0 where
   late_met : every 1 (λ k. meets_in (loss_of (counting 1 1).lengths) (made_with ones 0) late_events (72 + k)) ≡ true
   late_after : eqb (resets_before late_events 72) (resets late_events) ≡ true
   -- the runs go on, 1, 2, 3, and 2
-  grown_run : (run_held loss_latch_of (relay_after overgrown (counting 1 1) (quiet 73)) 0 ≡ 1)
-      × (run_held loss_latch_of (relay_after overgrown (counting 1 1) (quiet 74)) 0 ≡ 2)
-      × (run_held loss_latch_of (relay_after overgrown (counting 1 1) (quiet 75)) 0 ≡ 3)
-  over_grown : run_held over_latch_of (relay_after overgrown (counting 1 1) (struck_after 72 ++ (frame (still 512) 127 ∷ []))) 3 ≡ 2
+  grown_run : (run_held the_loss_latch (relay_after overgrown (counting 1 1) (quiet 73)) 0 ≡ 1)
+      × (run_held the_loss_latch (relay_after overgrown (counting 1 1) (quiet 74)) 0 ≡ 2)
+      × (run_held the_loss_latch (relay_after overgrown (counting 1 1) (quiet 75)) 0 ≡ 3)
+  over_grown : run_held the_over_latch (relay_after overgrown (counting 1 1) (struck_after 72 ++ (frame (still 512) 127 ∷ []))) 3 ≡ 2
   refused : (short.fresh (counting 24 24)).refusal ≡ 1
   restored_16 : (restored.change (relay_after restored (counting 24 24) []) ones.levels).relay.settings.lengths.loss ≡ 16
 
@@ -242,7 +242,7 @@ run_lengths_ones =
         codes = still 612;
         enable = 127;
         taken = facts.struck_taken;
-        latch = over_latch_of;
+        latch = the_over_latch;
         channel = 3;
         is_channel = lit< tt;
         was = λ t. subst T facts.over_on_lem.0 t;
@@ -257,7 +257,7 @@ run_lengths_ones =
       one_frame_early = trips_early
           (goes_on_in early (counting 3 3) facts.three_three (quiet 73) 127 facts.taken facts.early_on.0 facts.early_on.1) 2
           (lit< tt) (record { before = 71; is_before = sym facts.frames_73; apart = λ run. uncounted run.0.counted.late });
-      one_frame_late = trips_late loss_latch_of (record {
+      one_frame_late = trips_late the_loss_latch (record {
         settings = counting 1 1;
         accepted = length_calls.least;
         calls = quiet 73;
@@ -268,9 +268,9 @@ run_lengths_ones =
         run = full_meeting (loss_of (counting 1 1).lengths) (made_with ones 0) late_events 72 facts.late_run facts.late_met facts.late_after;
         off = λ t. subst T facts.late_off t;
       });
-      run_grown = grows_on (counting 1 1) length_calls.least (quiet 74) loss_latch_of 0 (lit< tt)
+      run_grown = grows_on (counting 1 1) length_calls.least (quiet 74) the_loss_latch 0 (lit< tt)
           (subst (λ (run : ℕ). 1 < run) (sym facts.grown_run.1) (lit< tt));
-      over_run_grown = grows_on (counting 1 1) length_calls.least (struck_after 72 ++ (frame (still 512) 127 ∷ [])) over_latch_of 3 (lit< tt)
+      over_run_grown = grows_on (counting 1 1) length_calls.least (struck_after 72 ++ (frame (still 512) 127 ∷ [])) the_over_latch 3 (lit< tt)
           (subst (λ (run : ℕ). 1 < run) (sym facts.over_grown) (lit< tt));
       long_refused = refuses_settings (counting 24 24) length_calls.most (λ e. absurd (omega (arith, e, facts.refused)));
       lengths_altered = alters_lengths (counting 24 24) length_calls.most [] (change ones.levels)

@@ -78,8 +78,8 @@ module _ (settings : Settings) (ok : AcceptedSettings settings) where
             ∙ ap (min settled) (since_same (bit6_in first) (device_bit calls) (accepted_frames calls) bits);
         slot = clock.placed ∙ ap (λ (n : ℕ). n % 8) (frames_same 0 calls);
         samples = λ c h. (at_channel calls c h).samples ∙ ap (window_of (channel_history c calls)) (frames_same c calls);
-        loss_latch_of = λ c h. loss_rule _ _ some_loss some_over _ (at_channel calls c h);
-        over_latch_of = λ c h. over_rule _ _ some_loss some_over _ (at_channel calls c h);
+        loss_latch = λ c h. loss_rule _ _ some_loss some_over _ (at_channel calls c h);
+        over_latch = λ c h. over_rule _ _ some_loss some_over _ (at_channel calls c h);
         held = v.held;
       }
 

@@ -28,8 +28,8 @@ pub record SameButRuns (r s : Relay) : Type 0 where
   pub age : r.age ≡ s.age
   pub slot : r.slot ≡ s.slot
   pub samples : (c : ℕ) → c < 6 → (channel_at r c).samples ≡ (channel_at s c).samples
-  pub loss_latch_of : (c : ℕ) → c < 6 → (channel_at r c).loss_latch ≡ (channel_at s c).loss_latch
-  pub over_latch_of : (c : ℕ) → c < 6 → (channel_at r c).over_latch ≡ (channel_at s c).over_latch
+  pub loss_latch : (c : ℕ) → c < 6 → (channel_at r c).loss_latch ≡ (channel_at s c).loss_latch
+  pub over_latch : (c : ℕ) → c < 6 → (channel_at r c).over_latch ≡ (channel_at s c).over_latch
 
 -- what two frames answer beside the relay
 pub record SameAnswer (a b : FrameAnswer) : Type 0 where
@@ -61,8 +61,8 @@ module _ (d : Implementation) (meets : Demanded d) (settings : Settings) (ok : A
         age = t.age ∙ sym o.age;
         slot = t.slot ∙ sym o.slot;
         samples = λ c h. t.samples c h ∙ sym (o.samples c h);
-        loss_latch_of = λ c h. same_test _ _ (t.loss_latch_of c h) (o.loss_latch_of c h);
-        over_latch_of = λ c h. same_test _ _ (t.over_latch_of c h) (o.over_latch_of c h);
+        loss_latch = λ c h. same_test _ _ (t.loss_latch c h) (o.loss_latch c h);
+        over_latch = λ c h. same_test _ _ (t.over_latch c h) (o.over_latch c h);
       }
 
   pub same_frame : (past : List Call) (codes : Codes) (enable : ℕ)

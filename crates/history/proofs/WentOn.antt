@@ -12,7 +12,7 @@ use Rattle.relay.specs.declared.Settings.{Settings}
 use Rattle.history.specs.Calls.{Call, Implementation}
 use Rattle.history.specs.History.{Input, Event, input_of, channel_history, frames, input_at, levels_at, FullRun}
 use Rattle.history.specs.Demand.{made_with, OverOn, over_after, AcceptedSettings, Demanded}
-use Rattle.history.specs.WrongRelays.{Latch, loss_latch_of, over_latch_of, latch_after, length_of, kind_of, GoesOn, number_of, calls_of, full_length, made_in, events}
+use Rattle.history.specs.WrongRelays.{Latch, the_loss_latch, the_over_latch, latch_after, length_of, kind_of, GoesOn, number_of, calls_of, full_length, made_in, events}
 use Rattle.history.proofs.History.{input_last}
 use Rattle.history.proofs.Laws.{relay_says, loss_near, over_near}
 use Rattle.history.proofs.Relay.{history_frame, frames_frame, frames_same, current_at}
@@ -21,7 +21,7 @@ module _ (d : Implementation) (meets : Demanded d) where
   -- a voltage's over latch is never on
   is_current_lem : (settings : Settings) → AcceptedSettings settings → (calls : List Call) (c : ℕ) → c < 6 → T (over_after d settings calls c) → 3 ≤ c
   is_current_lem settings ok calls c h t =
-      let on : OverOn settings c calls = ((relay_says d meets settings ok calls).over_latch_of c h).0 t in
+      let on : OverOn settings c calls = ((relay_says d meets settings ok calls).over_latch c h).0 t in
       leb→le 3 c (subst T (current_at c calls (made_with settings c) refl on.0)
       (and_yes (levels_at (made_with settings c) (channel_history c calls) on.0).current _ (on.1.meets on.0 (omega arith) (omega (arith, ok.over_length)))).0)
 
@@ -39,10 +39,10 @@ module _ (d : Implementation) (meets : Demanded d) where
       where
         by : (latch : Latch) → ¬ T (latch_after d latch g.settings g.past g.channel)
             → T (latch_after d latch g.settings (calls_of g) g.channel) → Ends latch
-        by loss_latch_of was now =
+        by the_loss_latch was now =
             let run = loss_near d meets g.settings g.accepted g.past g.codes g.enable g.taken g.channel g.is_channel was now in
             (run.0, run.1, run.2)
-        by over_latch_of was now =
+        by the_over_latch was now =
             let run = over_near d meets g.settings g.accepted g.past g.codes g.enable g.taken g.channel
             (is_current_lem g.settings g.accepted (calls_of g) g.channel g.is_channel now) g.is_channel was now in
             (run.0, run.1, run.2)
@@ -51,8 +51,8 @@ module _ (d : Implementation) (meets : Demanded d) where
     some = by g.latch
       where
         by : (latch : Latch) → 0 < length_of latch g.settings.lengths
-        by loss_latch_of = omega (arith, g.accepted.loss_length)
-        by over_latch_of = omega (arith, g.accepted.over_length)
+        by the_loss_latch = omega (arith, g.accepted.loss_length)
+        by the_over_latch = omega (arith, g.accepted.over_length)
 
     pub grows_disabled_lem : T (bit_of g.enable g.channel && bit_of g.enable 6)
     grows_disabled_lem =

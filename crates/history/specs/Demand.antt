@@ -132,8 +132,8 @@ module _ (d : Implementation) (settings : Settings) where
     pub samples : (c : ℕ) → c < 6
         → (channel_at (relay_after calls) c).samples ≡ window_of (channel_history c calls) (accepted_frames calls)
     -- "A loss latch, or a current's over latch, is on exactly when .."; a voltage's over latch never is
-    pub loss_latch_of : (c : ℕ) → c < 6 → T (loss_after calls c) ↔ LossOn settings c calls
-    pub over_latch_of : (c : ℕ) → c < 6 → T (over_after calls c) ↔ OverOn settings c calls
+    pub loss_latch : (c : ℕ) → c < 6 → T (loss_after calls c) ↔ LossOn settings c calls
+    pub over_latch : (c : ℕ) → c < 6 → T (over_after calls c) ↔ OverOn settings c calls
     -- the levels that the relay holds are those in force (Paper 6); its lengths are "fixed when it is made" (Paper 9)
     pub held : (relay_after calls).settings
         ≡ record { levels = in_force settings.levels calls; lengths = settings.lengths }

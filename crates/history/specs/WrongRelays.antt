@@ -121,39 +121,39 @@ RestrainsLoss d k =
 
 -- A channel's two latches
 pub data Latch : Type 0 where
-  loss_latch_of : Latch
-  over_latch_of : Latch
+  the_loss_latch : Latch
+  the_over_latch : Latch
 
 abbrev pub latch_in : Latch → Relay → ℕ → Bool
-latch_in loss_latch_of r c = (channel_at r c).loss_latch
-latch_in over_latch_of r c = (channel_at r c).over_latch
+latch_in the_loss_latch r c = (channel_at r c).loss_latch
+latch_in the_over_latch r c = (channel_at r c).over_latch
 
 abbrev pub latch_after : Implementation → Latch → Settings → List Call → ℕ → Bool
 latch_after d latch settings calls c = latch_in latch (relay_after d settings calls) c
 
 -- its run, as a relay holds it
 abbrev pub run_held : Latch → Relay → ℕ → ℕ
-run_held loss_latch_of r c = (channel_at r c).loss_run
-run_held over_latch_of r c = (channel_at r c).over_run
+run_held the_loss_latch r c = (channel_at r c).loss_run
+run_held the_over_latch r c = (channel_at r c).over_run
 
 -- the frames of a full run: "Loss and over lengths" (Paper 9)
 abbrev pub length_of : Latch → Lengths → ℕ
-length_of loss_latch_of lengths = lengths.loss
-length_of over_latch_of lengths = lengths.over
+length_of the_loss_latch lengths = lengths.loss
+length_of the_over_latch lengths = lengths.over
 
 -- the latch that goes by the other length
 abbrev pub other : Latch → Latch
-other loss_latch_of = over_latch_of
-other over_latch_of = loss_latch_of
+other the_loss_latch = the_over_latch
+other the_over_latch = the_loss_latch
 
 -- its kind of run; and that two levels of a channel differ in what is its run's own level (Paper 6)
 abbrev pub kind_of : Latch → Lengths → Kind
-kind_of loss_latch_of = loss_of
-kind_of over_latch_of = over_of
+kind_of the_loss_latch = loss_of
+kind_of the_over_latch = over_of
 
 abbrev pub Differ : Latch → ChannelLevels → ChannelLevels → Type 0
-Differ loss_latch_of old new = ¬ (old.drop ≡ new.drop)
-Differ over_latch_of old new = ¬ ((old.pickup ≡ new.pickup) × (old.restraint ≡ new.restraint))
+Differ the_loss_latch old new = ¬ (old.drop ≡ new.drop)
+Differ the_over_latch old new = ¬ ((old.pickup ≡ new.pickup) × (old.restraint ≡ new.restraint))
 
 -- In some accepted frame, after the calls `past`, a latch goes on that was off before it.
 pub record GoesOn (d : Implementation) : Type 0 where

@@ -124,13 +124,13 @@ wild_list =
     ∷ change (wild_levels 401) ∷ wild_frame 0x50 78 ∷ wild_frame 0x7F 79 ∷ []))
 
 abbrev at : ℕ → ℕ → ℕ → Bool → Bool → Bool → Shown
-at amplitude loss_count over_count loss_latch_of over_latch_of output =
+at amplitude loss over loss_on over_on output =
     record {
       amplitude = amplitude;
-      loss_count = loss_count;
-      over_count = over_count;
-      loss_latch_of = loss_latch_of;
-      over_latch_of = over_latch_of;
+      loss_run = loss;
+      over_run = over;
+      loss_latch = loss_on;
+      over_latch = over_on;
       output = output;
     }
 
@@ -162,10 +162,10 @@ shown_at c s calls n = get_or (shown the_relay c (fresh_of s).relay calls) n (at
 -- ---- what is asked of the two lists is needed: alike in all else, they do not show the same of channel 4
 
 abbrev loss_run_at : Settings → List Call → ℕ → ℕ
-loss_run_at s calls n = (shown_at 4 s calls n).loss_count
+loss_run_at s calls n = (shown_at 4 s calls n).loss_run
 
 abbrev over_run_at : Settings → List Call → ℕ → ℕ
-over_run_at s calls n = (shown_at 4 s calls n).over_count
+over_run_at s calls n = (shown_at 4 s calls n).over_run
 
 -- m = 400 from frame 0 on
 abbrev pub wave : List Call
@@ -191,8 +191,8 @@ pub record Needed : Type 0 where
   pub drop : (loss_run_at (equal_levels 401 401) wave 72 ≡ 1) × (loss_run_at (equal_levels 400 401) wave 72 ≡ 0)
   pub pickup : (over_run_at (equal_levels 1 400) wave 72 ≡ 1) × (over_run_at (equal_levels 1 401) wave 72 ≡ 0)
   pub restraint : (over_run_at (restrained (0 ∷ 0 ∷ 0 ∷ [])) wave 72 ≡ 1) × (over_run_at (restrained (0 ∷ 1 ∷ 0 ∷ [])) wave 72 ≡ 0)
-  pub loss_length : ((shown_at 4 (ones_of 1 4) (quiet 73) 72).loss_latch_of ≡ true) × ((shown_at 4 (ones_of 2 4) (quiet 73) 72).loss_latch_of ≡ false)
-  pub over_length : ((shown_at 4 (ones_of 16 1) wave 72).over_latch_of ≡ true) × ((shown_at 4 (ones_of 16 2) wave 72).over_latch_of ≡ false)
+  pub loss_length : ((shown_at 4 (ones_of 1 4) (quiet 73) 72).loss_latch ≡ true) × ((shown_at 4 (ones_of 2 4) (quiet 73) 72).loss_latch ≡ false)
+  pub over_length : ((shown_at 4 (ones_of 16 1) wave 72).over_latch ≡ true) × ((shown_at 4 (ones_of 16 2) wave 72).over_latch ≡ false)
   pub new_level : (loss_run_at ones (drop_changed 401) 73 ≡ 1) × (loss_run_at ones (drop_changed 400) 73 ≡ 0)
   -- a frame that is refused for another channel's code shows zeros
   pub accepted : ((shown_at 4 ones (hit 612) 0).amplitude ≡ 400) × ((shown_at 4 ones (hit 1024) 0).amplitude ≡ 0)

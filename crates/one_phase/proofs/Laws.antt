@@ -255,10 +255,10 @@ module _ (d : Implementation) (c : ℕ) (one other : Settings) (past later past'
 
   pub record SameFrame : Type 0 where
     pub amplitude : get_or here.amplitudes c 0 ≡ get_or there.amplitudes c 0
-    pub loss_count : (channel_at here.relay c).loss_run ≡ (channel_at there.relay c).loss_run
-    pub over_count : (channel_at here.relay c).over_run ≡ (channel_at there.relay c).over_run
-    pub loss_latch_of : (channel_at here.relay c).loss_latch ≡ (channel_at there.relay c).loss_latch
-    pub over_latch_of : (channel_at here.relay c).over_latch ≡ (channel_at there.relay c).over_latch
+    pub loss_run : (channel_at here.relay c).loss_run ≡ (channel_at there.relay c).loss_run
+    pub over_run : (channel_at here.relay c).over_run ≡ (channel_at there.relay c).over_run
+    pub loss_latch : (channel_at here.relay c).loss_latch ≡ (channel_at there.relay c).loss_latch
+    pub over_latch : (channel_at here.relay c).over_latch ≡ (channel_at there.relay c).over_latch
     pub output : bit_of here.output c ≡ bit_of there.output c
 
   -- "after each frame": a frame of the one list, and the frame of the other with as many frames before it
@@ -268,10 +268,10 @@ module _ (d : Implementation) (c : ℕ) (one other : Settings) (past later past'
   at_frame law h levels lengths taken taken' alike number =
       record {
         amplitude = ap (λ (s : Shown). s.amplitude) same;
-        loss_count = ap (λ (s : Shown). s.loss_count) same;
-        over_count = ap (λ (s : Shown). s.over_count) same;
-        loss_latch_of = ap (λ (s : Shown). s.loss_latch_of) same;
-        over_latch_of = ap (λ (s : Shown). s.over_latch_of) same;
+        loss_run = ap (λ (s : Shown). s.loss_run) same;
+        over_run = ap (λ (s : Shown). s.over_run) same;
+        loss_latch = ap (λ (s : Shown). s.loss_latch) same;
+        over_latch = ap (λ (s : Shown). s.over_latch) same;
         output = ap (λ (s : Shown). s.output) same;
       }
     where

@@ -129,10 +129,10 @@ record Unlike (d : Implementation) (p : Pair 4) (part : Shown → ℕ) (n here t
   in_other : part_at part n (shown d 4 (other_relay d 4 p) p.those) ≡ there
 
 abbrev loss_run_in : Shown → ℕ
-loss_run_in s = s.loss_count
+loss_run_in s = s.loss_run
 
 abbrev over_run_in : Shown → ℕ
-over_run_in s = s.over_count
+over_run_in s = s.over_run
 
 abbrev amplitude_in : Shown → ℕ
 amplitude_in s = s.amplitude

@@ -49,10 +49,10 @@ abbrev showing : Phase → Bool → Shown
 showing p enabled =
     record {
       amplitude = amplitude_of 1 p.channel.samples;
-      loss_count = p.channel.loss_run;
-      over_count = p.channel.over_run;
-      loss_latch_of = p.channel.loss_latch;
-      over_latch_of = p.channel.over_latch;
+      loss_run = p.channel.loss_run;
+      over_run = p.channel.over_run;
+      loss_latch = p.channel.loss_latch;
+      over_latch = p.channel.over_latch;
       output = latch_on p.channel && enabled;
     }
 

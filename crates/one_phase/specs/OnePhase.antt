@@ -59,20 +59,20 @@ left c calls = map (left_of c) (struck c calls)
 -- and latches as the relay holds them that it hands back.
 pub record Shown : Type 0 where
   pub amplitude : ℕ
-  pub loss_count : ℕ
-  pub over_count : ℕ
-  pub loss_latch_of : Bool
-  pub over_latch_of : Bool
+  pub loss_run : ℕ
+  pub over_run : ℕ
+  pub loss_latch : Bool
+  pub over_latch : Bool
   pub output : Bool
 
 abbrev pub shown_in : ℕ → FrameAnswer → Shown
 shown_in c a =
     record {
       amplitude = get_or a.amplitudes c 0;
-      loss_count = (channel_at a.relay c).loss_run;
-      over_count = (channel_at a.relay c).over_run;
-      loss_latch_of = (channel_at a.relay c).loss_latch;
-      over_latch_of = (channel_at a.relay c).over_latch;
+      loss_run = (channel_at a.relay c).loss_run;
+      over_run = (channel_at a.relay c).over_run;
+      loss_latch = (channel_at a.relay c).loss_latch;
+      over_latch = (channel_at a.relay c).over_latch;
       output = bit_of a.output c;
     }
 
