@@ -3,9 +3,11 @@
 // and not a failure, looks like a unit that has recorded nothing.
 #![tactic(auto)]
 
-ghost use Rattle.io.specs.Counts.{IsPrefixLen};
+ghost use Rattle.std.specs.Prelude.{◌≡◌, ◌<◌, ◌≤◌, false, length, take};
+ghost use Rattle.std.specs.Io.KnownBytes.{Consumes, IsAtEnd};
 
-use libc::{STDIN_FILENO, STDOUT_FILENO};
+use std::io;
+use std::io::Read;
 
 // What came in: so many bytes at the front of the buffer, and whether a read failed behind them.
 #[derive(Clone, Copy)]
@@ -14,19 +16,27 @@ struct Input {
     failed: bool,
 }
 
-// Reads until the buffer is full, the input ends or a read fails. The kit's `read_full` does not tell the last two
-// apart. Which of these it is, and which bytes came, is the system's: no contract says it.
-fn read_all(fd: i32, buf: &mut [u8]) -> Input
-    ensures { IsPrefixLen result.count buf.new }
+// Reads until the buffer is full, the input ends or a read fails. std's `read_exact` tells neither the last two apart
+// nor how many bytes came. Which of these it is, and which bytes standard input gives, is the system's: no contract
+// says it. Of a source whose bytes are known these are the first, and all where no read failed and room is left.
+fn read_all<R: Read>(source: &mut R, buf: &mut [u8]) -> Input
+    ensures within { result.count ≤ length buf.new }
+    ensures front { result.count ≡ length (take result.count buf.new) }
+    ensures bytes { Consumes (R.remaining source.old) (R.remaining source.new) (take result.count buf.new) }
+    ensures end { result.failed ≡ false → result.count < length buf.new → IsAtEnd (R.remaining source.new) }
 {
     let mut count: usize = 0;
     while count < buf.len() {
-        let got = libc::read(fd, &mut buf[count..]);
-        let n = io::count(got, &buf[count..]);
+        let Ok(n) = source.read(&mut buf[count..]) else {
+            return Input {
+                count,
+                failed: true,
+            };
+        };
         if n == 0 {
             return Input {
                 count,
-                failed: got < 0,
+                failed: false,
             };
         }
         count += n;
@@ -37,14 +47,14 @@ fn read_all(fd: i32, buf: &mut [u8]) -> Input
     }
 }
 
-fn main() {
+fn main(rt: HostRuntime) -> io::Result<()> {
     let mut bytes = [0u8; report::INPUT];
-    let input = read_all(STDIN_FILENO, &mut bytes);
+    let input = read_all(&mut rt.stdin(), &mut bytes);
     if input.failed {
-        return;
+        return Ok(());
     }
     let n = input.count;
     let mut text = [0u8; report::ROOM];
     let m = report::report(&bytes[..n], &mut text);
-    io::write_all(STDOUT_FILENO, &text[..m]);
+    rt.write_all(&text[..m])
 }

@@ -2,44 +2,42 @@
 // stored output was made by a second implementation.
 #![tactic(auto)]
 
-use libc::STDOUT_FILENO;
+use std::fs::File;
+use std::io;
+use std::io::Read;
+use std::rt::Files;
 
 // One capture's name and its report.
-fn show(path: &[u8]) {
-    let fd = os::open_read(path);
-    if fd < 0 {
-        os::fail(path);
-        return;
-    }
-    let mut input = [0u8; report::INPUT];
-    let n = io::read_full(fd, &mut input);
-    libc::close(fd);
-    io::write_all(STDOUT_FILENO, path);
-    io::write_all(STDOUT_FILENO, b"\n");
+fn show(rt: &(impl Files + Alloc + Print), path: &str) -> io::Result<()> {
+    let mut input = Vec::new(rt.alloc());
+    File::open(rt, path)?
+        .take(report::INPUT as u64)
+        .read_to_end(&mut input)?;
+    rt.println(path)?;
     let mut text = [0u8; report::ROOM];
-    let m = report::report(&input[..n], &mut text);
-    io::write_all(STDOUT_FILENO, &text[..m]);
+    let m = report::report(&input, &mut text);
+    rt.write_all(&text[..m])
 }
 
 // Levels, latches, settling after the device switch, refusals, and the longest capture.
-fn main() {
-    show(b"level-3412.p6k");
-    show(b"level-3413.p6k");
-    show(b"pickup-3412-3413-3414.p6k");
-    show(b"pickup-3413-3414-3412.p6k");
-    show(b"pickup-3414-3412-3413.p6k");
-    show(b"drop-818-819-820.p6k");
-    show(b"drop-819-820-818.p6k");
-    show(b"drop-820-818-819.p6k");
-    show(b"over-3.p6k");
-    show(b"loss-late-0.p6k");
-    show(b"disabled-and-back-4.p6k");
-    show(b"settling.p6k");
-    show(b"6-mark-1-37.p6k");
-    show(b"7-change-0-0-80-00.p6k");
-    show(b"8-last-byte-missing.p6k");
-    show(b"9-enable-5-80.p6k");
-    show(b"order-9-change-before-7.p6k");
-    show(b"10-tail-ff-1.p6k");
-    show(b"longest.p6k");
+fn main(rt: HostRuntime) -> io::Result<()> {
+    show(&rt, "level-3412.p6k")?;
+    show(&rt, "level-3413.p6k")?;
+    show(&rt, "pickup-3412-3413-3414.p6k")?;
+    show(&rt, "pickup-3413-3414-3412.p6k")?;
+    show(&rt, "pickup-3414-3412-3413.p6k")?;
+    show(&rt, "drop-818-819-820.p6k")?;
+    show(&rt, "drop-819-820-818.p6k")?;
+    show(&rt, "drop-820-818-819.p6k")?;
+    show(&rt, "over-3.p6k")?;
+    show(&rt, "loss-late-0.p6k")?;
+    show(&rt, "disabled-and-back-4.p6k")?;
+    show(&rt, "settling.p6k")?;
+    show(&rt, "6-mark-1-37.p6k")?;
+    show(&rt, "7-change-0-0-80-00.p6k")?;
+    show(&rt, "8-last-byte-missing.p6k")?;
+    show(&rt, "9-enable-5-80.p6k")?;
+    show(&rt, "order-9-change-before-7.p6k")?;
+    show(&rt, "10-tail-ff-1.p6k")?;
+    show(&rt, "longest.p6k")
 }

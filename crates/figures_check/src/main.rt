@@ -3,8 +3,9 @@
 #![tactic(auto)]
 
 use frames::bits::bit;
-use libc::STDOUT_FILENO;
 use relay::{FrameAnswer, Lengths, Levels, Relay, Settings};
+use std::io;
+use std::io::{BufWriter, Write};
 
 // 100, 71, 0, −71, −100, −71, 0, 71 as codes, from slot 0.
 const WAVE: [u16; 8] = [612, 583, 512, 441, 412, 441, 512, 583];
@@ -25,19 +26,18 @@ const BENCH_LENGTHS: Lengths = Lengths { loss: 16, over: 4 };
 const FRAMES: u64 = frames::MOST_FRAMES as u64;
 
 // A figure after its name.
-fn put_line(name: &[u8], n: u64) {
-    io::write_all(STDOUT_FILENO, name);
-    io::print_decimal(STDOUT_FILENO, n);
-    io::write_all(STDOUT_FILENO, b"\n");
+fn put_line<W: Write>(out: &mut W, name: &[u8], n: u64) -> io::Result<()> {
+    out.write_all(name)?;
+    writeln!(out, "{n}")
 }
 
 // A check's name, and whether it passes.
-fn put_check(name: &[u8], ok: bool) {
-    io::write_all(STDOUT_FILENO, name);
+fn put_check<W: Write>(out: &mut W, name: &[u8], ok: bool) -> io::Result<()> {
+    out.write_all(name)?;
     if ok {
-        io::write_all(STDOUT_FILENO, b": ok\n");
+        out.write_all(b": ok\n")
     } else {
-        io::write_all(STDOUT_FILENO, b": WRONG\n");
+        out.write_all(b": WRONG\n")
     }
 }
 
@@ -195,40 +195,54 @@ fn save_and_load() -> bool {
 }
 
 // The figures, then the checklist.
-fn main() {
+fn main(rt: HostRuntime) -> io::Result<()> {
+    let mut out = BufWriter::new(rt.alloc(), io::writer(&rt))?;
     put_line(
+        &mut out,
         b"wave on channel 3, pickup 1603, over latch in frame ",
         over_frame(1603),
-    );
+    )?;
     put_line(
+        &mut out,
         b"wave on channel 3, pickup 1604, no over latch before frame ",
         over_frame(1604),
-    );
+    )?;
     put_line(
+        &mut out,
         b"code 512, drop 1, output of frame 86: ",
         loss_output(86) as u64,
-    );
+    )?;
     put_line(
+        &mut out,
         b"code 512, drop 1, output of frame 87: ",
         loss_output(87) as u64,
-    );
+    )?;
     put_line(
+        &mut out,
         b"a frame with code 1023 answers refusal ",
         code_refusal(1023),
-    );
+    )?;
     put_line(
+        &mut out,
         b"a frame with code 1024 answers refusal ",
         code_refusal(1024),
-    );
-    put_check(b"channel by channel", channel_by_channel());
-    put_check(b"direct current on a quiet input", direct_current());
+    )?;
+    put_check(&mut out, b"channel by channel", channel_by_channel())?;
     put_check(
+        &mut out,
+        b"direct current on a quiet input",
+        direct_current(),
+    )?;
+    put_check(
+        &mut out,
         b"just over and just under pickup",
         (over_frame(1603) == 75) & (over_frame(1604) == FRAMES),
-    );
+    )?;
     put_check(
+        &mut out,
         b"reset one phase while another is tripped",
         reset_one_phase(),
-    );
-    put_check(b"save and load", save_and_load());
+    )?;
+    put_check(&mut out, b"save and load", save_and_load())?;
+    out.flush()
 }

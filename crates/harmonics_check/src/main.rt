@@ -5,8 +5,9 @@
 
 ghost use Rattle.std.specs.Prelude.{◌^◌, ◌<◌};
 
-use libc::STDOUT_FILENO;
 use relay::{Lengths, Levels, Relay, Settings};
+use std::io;
+use std::io::{BufWriter, Write};
 
 // Hundredths of a peak by slot, those that add and those that take away: 100, 71, 0, −71, −100, −71, 0, 71 for the
 // fundamental, 100, 0, −100, 0, 100, 0, −100, 0 for the second harmonic.
@@ -164,13 +165,19 @@ fn total(before: u32, amplitudes: [u16; 6], output: u8) -> u32 {
 }
 
 // A frame's line, where its output byte is another than before.
-fn show_change(n: u16, amplitudes: [u16; 6], output: u8, before: u8) {
+fn show_change<W: Write>(
+    out: &mut W,
+    n: u16,
+    amplitudes: [u16; 6],
+    output: u8,
+    before: u8,
+) -> io::Result<()> {
     if output == before {
-        return;
+        return Ok(());
     }
     let mut line = [0u8; 45];
     let m = text::put_frame_line(&mut line, 0, n, amplitudes, output);
-    io::write_all(STDOUT_FILENO, &line[..m]);
+    out.write_all(&line[..m])
 }
 
 // All that goes from frame to frame.
@@ -183,7 +190,7 @@ struct Play {
 }
 
 // Frame n.
-fn play_frame(play: Play, n: u16) -> Play {
+fn play_frame<W: Write>(out: &mut W, play: Play, n: u16) -> io::Result<Play> {
     let before = play.waves;
     let relay = play.relay;
     let waves = waves_in(before, n);
@@ -191,23 +198,23 @@ fn play_frame(play: Play, n: u16) -> Play {
     let answer = relay.frame(codes_in(peaks, n), enable_in(n));
     let amplitudes = answer.amplitudes;
     let seen = answer.relay;
-    show_change(n, amplitudes, answer.output, play.output);
-    Play {
+    show_change(out, n, amplitudes, answer.output, play.output)?;
+    Ok(Play {
         waves: waves,
         relay: reset_after(seen, n),
         output: answer.output,
         sum: total(play.sum, amplitudes, answer.output),
-    }
+    })
 }
 
 // A word and a number.
-fn show_number(word: &[u8], n: u32) {
-    io::write_all(STDOUT_FILENO, word);
-    io::print_decimal(STDOUT_FILENO, n as u64);
+fn show_number<W: Write>(out: &mut W, word: &[u8], n: u32) -> io::Result<()> {
+    out.write_all(word)?;
+    write!(out, "{n}")
 }
 
 // The frames of one setting, and their sum; the state of the generator after them.
-fn play_frames(settings: Settings, state: u32) -> u32 {
+fn play_frames<W: Write>(out: &mut W, settings: Settings, state: u32) -> io::Result<u32> {
     let made = Relay::fresh(settings);
     let relay = made.relay;
     let mut play = Play {
@@ -224,13 +231,13 @@ fn play_frames(settings: Settings, state: u32) -> u32 {
     };
     let mut n: u16 = 0;
     while n < FRAMES {
-        play = play_frame(play, n);
+        play = play_frame(out, play, n)?;
         n += 1;
     }
-    show_number(b"sum ", play.sum);
-    io::write_all(STDOUT_FILENO, b"\n");
+    show_number(out, b"sum ", play.sum)?;
+    out.write_all(b"\n")?;
     let waves = play.waves;
-    waves.state
+    Ok(waves.state)
 }
 
 // The restraint level at a place of the list, which goes round.
@@ -245,7 +252,7 @@ fn pickup(state: u32) -> u16 {
 
 // Setting k: one level for all drops, a pickup and a restraint level for each current. The state of the generator after
 // it.
-fn play_setting(k: u8, seed: u32) -> u32 {
+fn play_setting<W: Write>(out: &mut W, k: u8, seed: u32) -> io::Result<u32> {
     let one = next(seed);
     let two = next(one);
     let three = next(two);
@@ -256,17 +263,18 @@ fn play_setting(k: u8, seed: u32) -> u32 {
         restraint_at(place + 5),
         restraint_at(place + 10),
     ];
-    show_number(b"setting ", k as u32);
-    show_number(b": ", restraint[0] as u32);
-    show_number(b" ", restraint[1] as u32);
-    show_number(b" ", restraint[2] as u32);
-    io::write_all(STDOUT_FILENO, b"\n");
+    show_number(out, b"setting ", k as u32)?;
+    show_number(out, b": ", restraint[0] as u32)?;
+    show_number(out, b" ", restraint[1] as u32)?;
+    show_number(out, b" ", restraint[2] as u32)?;
+    out.write_all(b"\n")?;
     let levels = Levels {
         drop: [1 + drawn(one) % 300; 6],
         pickup: [pickup(two), pickup(three), pickup(four)],
         restraint: restraint,
     };
     play_frames(
+        out,
         Settings {
             levels: levels,
             lengths: BENCH_LENGTHS,
@@ -276,11 +284,13 @@ fn play_setting(k: u8, seed: u32) -> u32 {
 }
 
 // Each setting goes on where the generator stands.
-fn main() {
+fn main(rt: HostRuntime) -> io::Result<()> {
+    let mut out = BufWriter::new(rt.alloc(), io::writer(&rt))?;
     let mut state: u32 = 1;
     let mut k: u8 = 0;
     while k < SETTINGS {
-        state = play_setting(k, state);
+        state = play_setting(&mut out, k, state)?;
         k += 1;
     }
+    out.flush()
 }

@@ -3,8 +3,9 @@
 // for each change. The second implementation gives the same text, which the gate compares.
 #![tactic(auto)]
 
-use libc::STDOUT_FILENO;
 use relay::{Channel, Lengths, Levels, Relay, Settings};
+use std::io;
+use std::io::{BufWriter, Write};
 
 // 100, 71, 0, −71, −100, −71, 0, 71 as codes: its amplitude is 1603.
 const WAVE: [u16; 8] = [612, 583, 512, 441, 412, 441, 512, 583];
@@ -22,73 +23,76 @@ const FIRST_COUNTED: u16 = 72;
 const BENCH_LENGTHS: Lengths = Lengths { loss: 16, over: 4 };
 
 // A byte as text.
-fn show_byte(byte: u8) {
-    io::write_all(STDOUT_FILENO, &[byte]);
+fn show_byte<W: Write>(out: &mut W, byte: u8) -> io::Result<()> {
+    out.write_all(&[byte])
 }
 
 // A hexadecimal digit, in capitals.
-fn show_digit(d: u8) {
-    show_byte(b"0123456789ABCDEF"[(d % 16) as usize]);
+fn show_digit<W: Write>(out: &mut W, d: u8) -> io::Result<()> {
+    show_byte(out, b"0123456789ABCDEF"[(d % 16) as usize])
 }
 
 // A run after a space.
-fn show_run(run: u8) {
-    io::write_all(STDOUT_FILENO, b" ");
-    io::print_decimal(STDOUT_FILENO, run as u64);
+fn show_run<W: Write>(out: &mut W, run: u8) -> io::Result<()> {
+    write!(out, " {run}")
 }
 
 // The runs that can grow: a voltage has no over run.
-fn show_runs(channels: [Channel; 6]) {
-    show_run(channels[0].loss_run);
-    show_run(channels[1].loss_run);
-    show_run(channels[2].loss_run);
-    show_run(channels[3].loss_run);
-    show_run(channels[4].loss_run);
-    show_run(channels[5].loss_run);
-    show_run(channels[3].over_run);
-    show_run(channels[4].over_run);
-    show_run(channels[5].over_run);
+fn show_runs<W: Write>(out: &mut W, channels: [Channel; 6]) -> io::Result<()> {
+    show_run(out, channels[0].loss_run)?;
+    show_run(out, channels[1].loss_run)?;
+    show_run(out, channels[2].loss_run)?;
+    show_run(out, channels[3].loss_run)?;
+    show_run(out, channels[4].loss_run)?;
+    show_run(out, channels[5].loss_run)?;
+    show_run(out, channels[3].over_run)?;
+    show_run(out, channels[4].over_run)?;
+    show_run(out, channels[5].over_run)
 }
 
 // The line of frame n, which left these channels and gave this output byte.
-fn show_line(n: u16, channels: [Channel; 6], output: u8) {
+fn show_line<W: Write>(out: &mut W, n: u16, channels: [Channel; 6], output: u8) -> io::Result<()> {
     if n < FIRST_COUNTED {
-        return;
+        return Ok(());
     }
-    io::print_decimal(STDOUT_FILENO, n as u64);
-    show_runs(channels);
-    io::write_all(STDOUT_FILENO, b" ");
-    show_digit(output / 16);
-    show_digit(output);
-    io::write_all(STDOUT_FILENO, b"\n");
+    write!(out, "{n}")?;
+    show_runs(out, channels)?;
+    out.write_all(b" ")?;
+    show_digit(out, output / 16)?;
+    show_digit(out, output)?;
+    out.write_all(b"\n")
 }
 
 // Frame n, with the same code on all channels.
-fn play_frame(relay: Relay, wave: [u16; 8], n: u16) -> Relay {
+fn play_frame<W: Write>(out: &mut W, relay: Relay, wave: [u16; 8], n: u16) -> io::Result<Relay> {
     let code = wave[(n % 8) as usize];
     let answer = relay.frame([code; 6], ALL_ENABLED);
     let seen = answer.relay;
     let channels = seen.channels;
-    show_line(n, channels, answer.output);
-    seen
+    show_line(out, n, channels, answer.output)?;
+    Ok(seen)
 }
 
 // The frames from `first` on, up to the one before `end`.
-fn play(relay: Relay, wave: [u16; 8], first: u16, end: u16) -> Relay {
+fn play<W: Write>(
+    out: &mut W,
+    relay: Relay,
+    wave: [u16; 8],
+    first: u16,
+    end: u16,
+) -> io::Result<Relay> {
     let mut seen = relay;
     for n in first..end {
-        seen = play_frame(seen, wave, n);
+        seen = play_frame(out, seen, wave, n)?;
     }
-    seen
+    Ok(seen)
 }
 
 // New levels, and the refusal that they meet: 0 where they are accepted.
-fn change(relay: Relay, levels: Levels) -> Relay {
+fn change<W: Write>(out: &mut W, relay: Relay, levels: Levels) -> io::Result<Relay> {
     let answer = relay.change(levels);
-    io::write_all(STDOUT_FILENO, b"change ");
-    io::print_decimal(STDOUT_FILENO, answer.refusal as u64);
-    io::write_all(STDOUT_FILENO, b"\n");
-    answer.relay
+    writeln!(out, "change {}", answer.refusal)?;
+    Ok(answer.relay)
 }
 
 // Drops by channel, pickups and restraints by current.
@@ -106,116 +110,134 @@ fn base() -> Levels {
 }
 
 // A scene: its name, and its relay after the frames before `end`.
-fn begin(name: &[u8], wave: [u16; 8], end: u16) -> Relay {
-    io::write_all(STDOUT_FILENO, name);
+fn begin<W: Write>(out: &mut W, name: &[u8], wave: [u16; 8], end: u16) -> io::Result<Relay> {
+    out.write_all(name)?;
     let made = Relay::fresh(Settings {
         levels: base(),
         lengths: BENCH_LENGTHS,
     });
-    play(made.relay, wave, 0, end)
+    play(out, made.relay, wave, 0, end)
 }
 
 // The wave trips the currents in frame 75.
-fn unchanged() {
-    begin(b"unchanged\n", WAVE, 80);
+fn unchanged<W: Write>(out: &mut W) -> io::Result<()> {
+    begin(out, b"unchanged\n", WAVE, 80)?;
+    Ok(())
 }
 
 // A dispatcher raises the pickups one frame before the trip. The over runs become 0, and the wave no longer feeds them:
 // nothing trips.
-fn summer() {
-    let relay = begin(b"summer\n", WAVE, 75);
-    let raised = change(relay, levels([1; 6], [1604; 3], [0; 3]));
-    play(raised, WAVE, 75, 80);
+fn summer<W: Write>(out: &mut W) -> io::Result<()> {
+    let relay = begin(out, b"summer\n", WAVE, 75)?;
+    let raised = change(out, relay, levels([1; 6], [1604; 3], [0; 3]))?;
+    play(out, raised, WAVE, 75, 80)?;
+    Ok(())
 }
 
 // Lowered again at once: the runs begin anew all the same, and the trip comes three frames later.
-fn raised_and_lowered() {
-    let relay = begin(b"raised and lowered\n", WAVE, 75);
-    let raised = change(relay, levels([1; 6], [1604; 3], [0; 3]));
-    let lowered = change(raised, base());
-    play(lowered, WAVE, 75, 80);
+fn raised_and_lowered<W: Write>(out: &mut W) -> io::Result<()> {
+    let relay = begin(out, b"raised and lowered\n", WAVE, 75)?;
+    let raised = change(out, relay, levels([1; 6], [1604; 3], [0; 3]))?;
+    let lowered = change(out, raised, base())?;
+    play(out, lowered, WAVE, 75, 80)?;
+    Ok(())
 }
 
 // A change before any run has begun takes no frame away, for the age stays.
-fn before_the_run() {
-    let relay = begin(b"before the run\n", WAVE, 72);
-    let lowered = change(relay, levels([1; 6], [1602; 3], [0; 3]));
-    play(lowered, WAVE, 72, 80);
+fn before_the_run<W: Write>(out: &mut W) -> io::Result<()> {
+    let relay = begin(out, b"before the run\n", WAVE, 72)?;
+    let lowered = change(out, relay, levels([1; 6], [1602; 3], [0; 3]))?;
+    play(out, lowered, WAVE, 72, 80)?;
+    Ok(())
 }
 
 // Latches stay on under levels that the wave does not meet.
-fn latched() {
-    let relay = begin(b"latched\n", WAVE, 76);
-    let raised = change(relay, levels([1; 6], [1604; 3], [0; 3]));
-    play(raised, WAVE, 76, 80);
+fn latched<W: Write>(out: &mut W) -> io::Result<()> {
+    let relay = begin(out, b"latched\n", WAVE, 76)?;
+    let raised = change(out, relay, levels([1; 6], [1604; 3], [0; 3]))?;
+    play(out, raised, WAVE, 76, 80)?;
+    Ok(())
 }
 
 // A drop is not an over run's own level.
-fn drops_only() {
-    let relay = begin(b"drops only\n", WAVE, 75);
-    let raised = change(relay, levels([2; 6], [1603; 3], [0; 3]));
-    play(raised, WAVE, 75, 80);
+fn drops_only<W: Write>(out: &mut W) -> io::Result<()> {
+    let relay = begin(out, b"drops only\n", WAVE, 75)?;
+    let raised = change(out, relay, levels([2; 6], [1603; 3], [0; 3]))?;
+    play(out, raised, WAVE, 75, 80)?;
+    Ok(())
 }
 
 // One current's pickup is not another's: only channel 4 trips later.
-fn one_pickup() {
-    let relay = begin(b"one pickup\n", WAVE, 75);
-    let lowered = change(relay, levels([1; 6], [1603, 1602, 1603], [0; 3]));
-    play(lowered, WAVE, 75, 80);
+fn one_pickup<W: Write>(out: &mut W) -> io::Result<()> {
+    let relay = begin(out, b"one pickup\n", WAVE, 75)?;
+    let lowered = change(out, relay, levels([1; 6], [1603, 1602, 1603], [0; 3]))?;
+    play(out, lowered, WAVE, 75, 80)?;
+    Ok(())
 }
 
 // A restraint is part of the over run's own level, although the wave is unrestrained under both.
-fn one_restraint() {
-    let relay = begin(b"one restraint\n", WAVE, 75);
-    let restrained = change(relay, levels([1; 6], [1603; 3], [0, 0, 100]));
-    play(restrained, WAVE, 75, 80);
+fn one_restraint<W: Write>(out: &mut W) -> io::Result<()> {
+    let relay = begin(out, b"one restraint\n", WAVE, 75)?;
+    let restrained = change(out, relay, levels([1; 6], [1603; 3], [0, 0, 100]))?;
+    play(out, restrained, WAVE, 75, 80)?;
+    Ok(())
 }
 
 // A refused change leaves all as it was, and so does a change to equal levels.
-fn refused() {
-    let relay = begin(b"refused\n", WAVE, 75);
-    let first = change(relay, levels([1; 6], [1603, 1603, 0], [0; 3]));
-    let second = change(first, levels([1, 1, 1, 1, 1, 10701], [1603; 3], [0; 3]));
-    let third = change(second, levels([1; 6], [1603; 3], [0, 0, 101]));
-    let fourth = change(third, levels([1; 6], [10701, 1603, 1603], [255, 0, 0]));
-    let equal = change(fourth, base());
-    play(equal, WAVE, 75, 80);
+fn refused<W: Write>(out: &mut W) -> io::Result<()> {
+    let relay = begin(out, b"refused\n", WAVE, 75)?;
+    let first = change(out, relay, levels([1; 6], [1603, 1603, 0], [0; 3]))?;
+    let second = change(
+        out,
+        first,
+        levels([1, 1, 1, 1, 1, 10701], [1603; 3], [0; 3]),
+    )?;
+    let third = change(out, second, levels([1; 6], [1603; 3], [0, 0, 101]))?;
+    let fourth = change(out, third, levels([1; 6], [10701, 1603, 1603], [255, 0, 0]))?;
+    let equal = change(out, fourth, base())?;
+    play(out, equal, WAVE, 75, 80)?;
+    Ok(())
 }
 
 // Channel 0 begins its loss run anew, and trips 15 frames after the others.
-fn loss() {
-    let relay = begin(b"loss\n", STILL, 87);
-    let raised = change(relay, levels([2, 1, 1, 1, 1, 1], [1603; 3], [0; 3]));
-    play(raised, STILL, 87, 104);
+fn loss<W: Write>(out: &mut W) -> io::Result<()> {
+    let relay = begin(out, b"loss\n", STILL, 87)?;
+    let raised = change(out, relay, levels([2, 1, 1, 1, 1, 1], [1603; 3], [0; 3]))?;
+    play(out, raised, STILL, 87, 104)?;
+    Ok(())
 }
 
 // Pickups and restraints are not a loss run's own level.
-fn loss_kept() {
-    let relay = begin(b"loss kept\n", STILL, 87);
-    let raised = change(relay, levels([1; 6], [1604; 3], [15; 3]));
-    play(raised, STILL, 87, 88);
+fn loss_kept<W: Write>(out: &mut W) -> io::Result<()> {
+    let relay = begin(out, b"loss kept\n", STILL, 87)?;
+    let raised = change(out, relay, levels([1; 6], [1604; 3], [15; 3]))?;
+    play(out, raised, STILL, 87, 88)?;
+    Ok(())
 }
 
 // Raised and lowered again at once, all loss runs begin anew.
-fn loss_raised_and_lowered() {
-    let relay = begin(b"loss raised and lowered\n", STILL, 87);
-    let raised = change(relay, levels([2; 6], [1603; 3], [0; 3]));
-    let lowered = change(raised, base());
-    play(lowered, STILL, 87, 104);
+fn loss_raised_and_lowered<W: Write>(out: &mut W) -> io::Result<()> {
+    let relay = begin(out, b"loss raised and lowered\n", STILL, 87)?;
+    let raised = change(out, relay, levels([2; 6], [1603; 3], [0; 3]))?;
+    let lowered = change(out, raised, base())?;
+    play(out, lowered, STILL, 87, 104)?;
+    Ok(())
 }
 
 // Over runs first, then loss runs.
-fn main() {
-    unchanged();
-    summer();
-    raised_and_lowered();
-    before_the_run();
-    latched();
-    drops_only();
-    one_pickup();
-    one_restraint();
-    refused();
-    loss();
-    loss_kept();
-    loss_raised_and_lowered();
+fn main(rt: HostRuntime) -> io::Result<()> {
+    let mut out = BufWriter::new(rt.alloc(), io::writer(&rt))?;
+    unchanged(&mut out)?;
+    summer(&mut out)?;
+    raised_and_lowered(&mut out)?;
+    before_the_run(&mut out)?;
+    latched(&mut out)?;
+    drops_only(&mut out)?;
+    one_pickup(&mut out)?;
+    one_restraint(&mut out)?;
+    refused(&mut out)?;
+    loss(&mut out)?;
+    loss_kept(&mut out)?;
+    loss_raised_and_lowered(&mut out)?;
+    out.flush()
 }

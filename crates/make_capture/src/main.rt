@@ -7,7 +7,7 @@
 ghost use Rattle.std.specs.Prelude.{◌≡◌};
 ghost use Rattle.make_capture.specs.Numbers.{number_of, numbers_of};
 
-use libc::{STDIN_FILENO, STDOUT_FILENO};
+use std::io;
 
 // The bytes of 55 numbers.
 const WANTED: usize = 220;
@@ -43,35 +43,31 @@ fn numbers_of(bytes: &[u8; INPUT]) -> [u32; 55]
     numbers
 }
 
-fn show_refusal(refusal: u8) {
-    io::write_all(STDOUT_FILENO, b"refused ");
-    io::print_decimal(STDOUT_FILENO, refusal as u64);
-    io::write_all(STDOUT_FILENO, b"\n");
+fn show_refusal(rt: &impl Print, refusal: u8) -> io::Result<()> {
+    println!(rt; "refused {refusal}")
 }
 
 // Writes the frames as a capture to standard output. Those that were made are never refused here (`made_fits`).
-fn show_capture(cells: &[u16]) {
+fn show_capture(rt: &impl Print, cells: &[u16]) -> io::Result<()> {
     let mut bytes = [0u8; capture::LONGEST];
     let written = writer::write(cells, &mut bytes);
     let n = written.count;
-    io::write_all(STDOUT_FILENO, &bytes[..n]);
+    rt.write_all(&bytes[..n])
 }
 
-fn main() {
+fn main(rt: HostRuntime) -> io::Result<()> {
     let mut bytes = [0u8; INPUT];
-    let input = input::read_all(STDIN_FILENO, &mut bytes);
+    let input = input::read_all(&mut rt.stdin(), &mut bytes);
     if input.failed {
-        return;
+        return Ok(());
     }
     if input.count != WANTED {
-        io::write_all(STDOUT_FILENO, b"220 bytes are wanted\n");
-        return;
+        return println!(rt; "220 bytes are wanted");
     }
     let mut cells = [0u16; CELLS];
     let made = generator::generate(numbers_of(&bytes), frames::MOST_FRAMES, &mut cells);
     if made.refusal != refusals::ACCEPTED {
-        show_refusal(made.refusal);
-        return;
+        return show_refusal(&rt, made.refusal);
     }
-    show_capture(&cells);
+    show_capture(&rt, &cells)
 }

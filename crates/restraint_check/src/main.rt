@@ -5,11 +5,14 @@
 
 ghost use Rattle.std.specs.Prelude.{◌<◌, ◌≤◌};
 
-use libc::STDOUT_FILENO;
 use relay::{Lengths, Levels, Relay, Settings};
+use std::fs::File;
+use std::io;
+use std::io::{BufWriter, Read, Write};
+use std::rt::Files;
 
 // Room for each of the captures, in bytes and in frames.
-const INPUT: usize = 4096;
+const INPUT: u64 = 4096;
 
 const MOST: usize = 256;
 
@@ -24,7 +27,12 @@ fn low(cell: u16) -> u8 {
 }
 
 // Frame n of the cells: its line.
-fn show_frame(relay: Relay, cells: &[u16; CELLS], n: usize) -> Relay
+fn show_frame<W: Write>(
+    out: &mut W,
+    relay: Relay,
+    cells: &[u16; CELLS],
+    n: usize,
+) -> io::Result<Relay>
     requires { n < 256 }
 {
     let codes = frames::cells::codes_at(cells, 7 * n);
@@ -33,12 +41,17 @@ fn show_frame(relay: Relay, cells: &[u16; CELLS], n: usize) -> Relay
     let amplitudes = answer.amplitudes;
     let mut line = [0u8; 45];
     let m = text::put_frame_line(&mut line, 0, n as u16, amplitudes, answer.output);
-    io::write_all(STDOUT_FILENO, &line[..m]);
-    answer.relay
+    out.write_all(&line[..m])?;
+    Ok(answer.relay)
 }
 
 // Each frame of the cells in turn, from a fresh relay with this restraint level.
-fn show_frames(cells: &[u16; CELLS], count: usize, restraint: u8)
+fn show_frames<W: Write>(
+    out: &mut W,
+    cells: &[u16; CELLS],
+    count: usize,
+    restraint: u8,
+) -> io::Result<()>
     requires { count ≤ 256 }
 {
     let levels = Levels {
@@ -53,53 +66,53 @@ fn show_frames(cells: &[u16; CELLS], count: usize, restraint: u8)
     let mut relay = made.relay;
     let mut n: usize = 0;
     while n < count {
-        relay = show_frame(relay, cells, n);
+        relay = show_frame(out, relay, cells, n)?;
         n += 1;
     }
+    Ok(())
 }
 
 // A word and a number: a line's end.
-fn show_number(word: &[u8], n: u64) {
-    io::write_all(STDOUT_FILENO, word);
-    io::print_decimal(STDOUT_FILENO, n);
-    io::write_all(STDOUT_FILENO, b"\n");
+fn show_number<W: Write>(out: &mut W, word: &[u8], n: u64) -> io::Result<()> {
+    out.write_all(word)?;
+    writeln!(out, "{n}")
 }
 
 // The report on a capture, from its bytes.
-fn show_capture(bytes: &[u8], restraint: u8) {
+fn show_capture<W: Write>(out: &mut W, bytes: &[u8], restraint: u8) -> io::Result<()> {
     let mut cells = [0u16; CELLS];
     let read = reader::read(bytes, &mut cells);
     let count = read.count;
     if read.refusal != refusals::ACCEPTED {
-        show_number(b"refused ", read.refusal as u64);
-        return;
+        return show_number(out, b"refused ", read.refusal as u64);
     }
     if MOST < count {
-        return;
+        return Ok(());
     }
-    show_frames(&cells, count, restraint);
-    show_number(b"frames ", count as u64);
+    show_frames(out, &cells, count, restraint)?;
+    show_number(out, b"frames ", count as u64)
 }
 
 // One capture's name and restraint level, and its report.
-fn show(path: &[u8], restraint: u8) {
-    let fd = os::open_read(path);
-    if fd < 0 {
-        os::fail(path);
-        return;
-    }
-    let mut input = [0u8; INPUT];
-    let n = io::read_full(fd, &mut input);
-    libc::close(fd);
-    io::write_all(STDOUT_FILENO, path);
-    show_number(b" restraint ", restraint as u64);
-    show_capture(&input[..n], restraint);
+fn show<W: Write>(
+    rt: &(impl Files + Alloc),
+    out: &mut W,
+    path: &str,
+    restraint: u8,
+) -> io::Result<()> {
+    let mut input = Vec::new(rt.alloc());
+    File::open(rt, path)?.take(INPUT).read_to_end(&mut input)?;
+    out.write_all(path.as_bytes())?;
+    show_number(out, b" restraint ", restraint as u64)?;
+    show_capture(out, &input, restraint)
 }
 
 // Magnetising current trips a relay without restraint and no other; a fault trips one with restraint too.
-fn main() {
-    show(b"inrush.p6k", 0);
-    show(b"inrush.p6k", 15);
-    show(b"inrush-then-fault.p6k", 15);
-    show(b"over-3.p6k", 15);
+fn main(rt: HostRuntime) -> io::Result<()> {
+    let mut out = BufWriter::new(rt.alloc(), io::writer(&rt))?;
+    show(&rt, &mut out, "inrush.p6k", 0)?;
+    show(&rt, &mut out, "inrush.p6k", 15)?;
+    show(&rt, &mut out, "inrush-then-fault.p6k", 15)?;
+    show(&rt, &mut out, "over-3.p6k", 15)?;
+    out.flush()
 }

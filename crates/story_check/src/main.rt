@@ -2,8 +2,9 @@
 // each call. The stored output was made by a second implementation.
 #![tactic(auto)]
 
-use libc::STDOUT_FILENO;
 use relay::{Lengths, Levels, Relay, Settings};
+use std::io;
+use std::io::{BufWriter, Write};
 
 // 100, 71, 0, −71, −100, −71, 0, 71 as codes: its amplitude is 1603.
 const WAVE: [u16; 8] = [612, 583, 512, 441, 412, 441, 512, 583];
@@ -29,46 +30,43 @@ fn enable_in(n: u16) -> u8 {
 }
 
 // Frame n with the wave on channels 3 and 4: its line, as in the bench program.
-fn show_frame(relay: Relay, n: u16) -> Relay {
+fn show_frame<W: Write>(out: &mut W, relay: Relay, n: u16) -> io::Result<Relay> {
     let code = WAVE[(n % 8) as usize];
     let answer = relay.frame([QUIET, QUIET, QUIET, code, code, QUIET], enable_in(n));
     let amplitudes = answer.amplitudes;
     let mut line = [0u8; 45];
     let m = text::put_frame_line(&mut line, 0, n, amplitudes, answer.output);
-    io::write_all(STDOUT_FILENO, &line[..m]);
-    answer.relay
+    out.write_all(&line[..m])?;
+    Ok(answer.relay)
 }
 
 // A reset: its mask and the refusal that it answers.
-fn show_reset(relay: Relay, mask: u8) -> Relay {
+fn show_reset<W: Write>(out: &mut W, relay: Relay, mask: u8) -> io::Result<Relay> {
     let answer = relay.reset(mask);
-    io::write_all(STDOUT_FILENO, b"reset ");
-    io::print_decimal(STDOUT_FILENO, mask as u64);
-    io::write_all(STDOUT_FILENO, b" answers ");
-    io::print_decimal(STDOUT_FILENO, answer.refusal as u64);
-    io::write_all(STDOUT_FILENO, b"\n");
-    answer.relay
+    writeln!(out, "reset {mask} answers {}", answer.refusal)?;
+    Ok(answer.relay)
 }
 
 // The reset that follows frame n: channel 3, one that is refused, none, all.
-fn reset_after(relay: Relay, n: u16) -> Relay {
+fn reset_after<W: Write>(out: &mut W, relay: Relay, n: u16) -> io::Result<Relay> {
     if n == 79 {
-        return show_reset(relay, 8);
+        return show_reset(out, relay, 8);
     }
     if n == 90 {
-        return show_reset(relay, 72);
+        return show_reset(out, relay, 72);
     }
     if n == 95 {
-        return show_reset(relay, 0);
+        return show_reset(out, relay, 0);
     }
     if n == 110 {
-        return show_reset(relay, 63);
+        return show_reset(out, relay, 63);
     }
-    relay
+    Ok(relay)
 }
 
 // Each frame, and the reset that follows it.
-fn main() {
+fn main(rt: HostRuntime) -> io::Result<()> {
+    let mut out = BufWriter::new(rt.alloc(), io::writer(&rt))?;
     let levels = Levels {
         drop: [1; 6],
         pickup: [1603; 3],
@@ -81,8 +79,9 @@ fn main() {
     let mut relay = made.relay;
     let mut n: u16 = 0;
     while n < FRAMES {
-        let seen = show_frame(relay, n);
-        relay = reset_after(seen, n);
+        let seen = show_frame(&mut out, relay, n)?;
+        relay = reset_after(&mut out, seen, n)?;
         n += 1;
     }
+    out.flush()
 }

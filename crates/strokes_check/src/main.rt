@@ -5,8 +5,9 @@
 
 ghost use Rattle.std.specs.Prelude.{◌≤◌};
 
-use libc::STDOUT_FILENO;
 use relay::{Channel, Lengths, Levels, Relay, Settings};
+use std::io;
+use std::io::{BufWriter, Write};
 
 // 100, 71, 0, −71, −100, −71, 0, 71 as codes: its amplitude is 1603.
 const WAVE: [u16; 8] = [612, 583, 512, 441, 412, 441, 512, 583];
@@ -155,13 +156,10 @@ fn pressed(relay: Relay, mask: u8) -> Relay {
 }
 
 // A reset: its mask and the refusal that it answers.
-fn show_press(relay: Relay, mask: u8) -> Relay {
+fn show_press<W: Write>(out: &mut W, relay: Relay, mask: u8) -> io::Result<Relay> {
     let answer = relay.reset(mask);
-    io::print_decimal(STDOUT_FILENO, mask as u64);
-    io::write_all(STDOUT_FILENO, b" answers ");
-    io::print_decimal(STDOUT_FILENO, answer.refusal as u64);
-    io::write_all(STDOUT_FILENO, b"\n");
-    answer.relay
+    writeln!(out, "{mask} answers {}", answer.refusal)?;
+    Ok(answer.relay)
 }
 
 // The codes of frame n: the wave on channels 3 and 4.
@@ -176,13 +174,13 @@ fn next(relay: Relay, n: u16) -> Relay {
 }
 
 // Frame n and its line, as in the bench program.
-fn show_frame(relay: Relay, n: u16) -> Relay {
+fn show_frame<W: Write>(out: &mut W, relay: Relay, n: u16) -> io::Result<Relay> {
     let answer = relay.frame(codes_of(n), 127);
     let amplitudes = answer.amplitudes;
     let mut line = [0u8; 45];
     let m = text::put_frame_line(&mut line, 0, n, amplitudes, answer.output);
-    io::write_all(STDOUT_FILENO, &line[..m]);
-    answer.relay
+    out.write_all(&line[..m])?;
+    Ok(answer.relay)
 }
 
 // The relay before frame LAST.
@@ -207,11 +205,11 @@ fn begun() -> Relay {
 
 // ---- what is printed
 
-fn show_equal(equal: bool) {
+fn show_equal<W: Write>(out: &mut W, equal: bool) -> io::Result<()> {
     if equal {
-        io::write_all(STDOUT_FILENO, b"equal\n");
+        out.write_all(b"equal\n")
     } else {
-        io::write_all(STDOUT_FILENO, b"different\n");
+        out.write_all(b"different\n")
     }
 }
 
@@ -236,7 +234,7 @@ fn equal_to_first(relay: Relay, a: u8, b: u8) -> u16
 }
 
 // Each pair of masks: how many are equal.
-fn show_pairs(relay: Relay) {
+fn show_pairs<W: Write>(out: &mut W, relay: Relay) -> io::Result<()> {
     let mut at_once: u16 = 0;
     let mut to_first: u16 = 0;
     let mut pair: u16 = 0;
@@ -247,48 +245,47 @@ fn show_pairs(relay: Relay) {
         to_first += equal_to_first(relay, a, b);
         pair += 1;
     }
-    io::write_all(
-        STDOUT_FILENO,
-        b"a then b, b then a, and both at once are equal: ",
-    );
-    io::print_decimal(STDOUT_FILENO, at_once as u64);
-    io::write_all(
-        STDOUT_FILENO,
-        b" of 4096 pairs of masks\na then b, and a alone, are equal: ",
-    );
-    io::print_decimal(STDOUT_FILENO, to_first as u64);
-    io::write_all(STDOUT_FILENO, b" of 4096 pairs of masks\n");
+    writeln!(
+        out,
+        "a then b, b then a, and both at once are equal: {at_once} of 4096 pairs of masks"
+    )?;
+    writeln!(
+        out,
+        "a then b, and a alone, are equal: {to_first} of 4096 pairs of masks"
+    )
 }
 
 // Phases 3 and 4: one and then the other, the other way round, at once, each followed by a frame.
-fn show_strokes(relay: Relay) {
-    let a_then_b = show_press(show_press(relay, 8), 16);
-    show_frame(a_then_b, LAST + 1);
-    let b_then_a = show_press(show_press(relay, 16), 8);
-    show_frame(b_then_a, LAST + 1);
-    let at_once = show_press(relay, strokes::union(8, 16));
-    show_frame(at_once, LAST + 1);
-    io::write_all(STDOUT_FILENO, b"8 then 16, and 16 then 8: ");
-    show_equal(same(a_then_b, b_then_a));
-    io::write_all(STDOUT_FILENO, b"8 then 16, and 24: ");
-    show_equal(same(a_then_b, at_once));
-    io::write_all(STDOUT_FILENO, b"16 then 8, and 24: ");
-    show_equal(same(b_then_a, at_once));
+fn show_strokes<W: Write>(out: &mut W, relay: Relay) -> io::Result<()> {
+    let a = show_press(out, relay, 8)?;
+    let a_then_b = show_press(out, a, 16)?;
+    show_frame(out, a_then_b, LAST + 1)?;
+    let b = show_press(out, relay, 16)?;
+    let b_then_a = show_press(out, b, 8)?;
+    show_frame(out, b_then_a, LAST + 1)?;
+    let at_once = show_press(out, relay, strokes::union(8, 16))?;
+    show_frame(out, at_once, LAST + 1)?;
+    out.write_all(b"8 then 16, and 16 then 8: ")?;
+    show_equal(out, same(a_then_b, b_then_a))?;
+    out.write_all(b"8 then 16, and 24: ")?;
+    show_equal(out, same(a_then_b, at_once))?;
+    out.write_all(b"16 then 8, and 24: ")?;
+    show_equal(out, same(b_then_a, at_once))
 }
 
 // One mask twice, no mask, and pairs that are not equal.
-fn show_others(relay: Relay) {
-    io::write_all(STDOUT_FILENO, b"8 then 8, and 8: ");
-    show_equal(same(pressed(pressed(relay, 8), 8), pressed(relay, 8)));
-    io::write_all(STDOUT_FILENO, b"0, and no press: ");
-    show_equal(same(pressed(relay, 0), relay));
-    io::write_all(STDOUT_FILENO, b"8, and 24: ");
-    show_equal(same(pressed(relay, 8), pressed(relay, 24)));
-    io::write_all(STDOUT_FILENO, b"8, and 16: ");
-    show_equal(same(pressed(relay, 8), pressed(relay, 16)));
-    io::write_all(STDOUT_FILENO, b"8, frame 90, 16, and frame 90, 24: ");
+fn show_others<W: Write>(out: &mut W, relay: Relay) -> io::Result<()> {
+    out.write_all(b"8 then 8, and 8: ")?;
+    show_equal(out, same(pressed(pressed(relay, 8), 8), pressed(relay, 8)))?;
+    out.write_all(b"0, and no press: ")?;
+    show_equal(out, same(pressed(relay, 0), relay))?;
+    out.write_all(b"8, and 24: ")?;
+    show_equal(out, same(pressed(relay, 8), pressed(relay, 24)))?;
+    out.write_all(b"8, and 16: ")?;
+    show_equal(out, same(pressed(relay, 8), pressed(relay, 16)))?;
+    out.write_all(b"8, frame 90, 16, and frame 90, 24: ")?;
     let between = pressed(next(pressed(relay, 8), LAST + 1), 16);
-    show_equal(same(between, pressed(next(relay, LAST + 1), 24)));
+    show_equal(out, same(between, pressed(next(relay, LAST + 1), 24)))
 }
 
 // 1 where the two differ, else 0.
@@ -299,22 +296,25 @@ fn differ(a: Relay, b: Relay) -> u16
 }
 
 // Each field altered alone: how many make a relay that is different.
-fn show_fields(relay: Relay) {
+fn show_fields<W: Write>(out: &mut W, relay: Relay) -> io::Result<()> {
     let mut different: u16 = 0;
     let mut k: u8 = 0;
     while k < FIELDS {
         different += differ(altered(relay, k), relay);
         k += 1;
     }
-    io::write_all(STDOUT_FILENO, b"one field altered, and not: different in ");
-    io::print_decimal(STDOUT_FILENO, different as u64);
-    io::write_all(STDOUT_FILENO, b" of 89 fields\n");
+    writeln!(
+        out,
+        "one field altered, and not: different in {different} of 89 fields"
+    )
 }
 
-fn main() {
-    let relay = show_frame(begun(), LAST);
-    show_strokes(relay);
-    show_others(relay);
-    show_pairs(relay);
-    show_fields(relay);
+fn main(rt: HostRuntime) -> io::Result<()> {
+    let mut out = BufWriter::new(rt.alloc(), io::writer(&rt))?;
+    let relay = show_frame(&mut out, begun(), LAST)?;
+    show_strokes(&mut out, relay)?;
+    show_others(&mut out, relay)?;
+    show_pairs(&mut out, relay)?;
+    show_fields(&mut out, relay)?;
+    out.flush()
 }
