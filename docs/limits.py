@@ -799,7 +799,7 @@ def switches():
             assert [any(ran([(s, True, k % p > 0) for k, s in enumerate(samples)])) for p in (SETTLED + n, SETTLED + n + 1)] == [False, True]
             assert any(ran(often(n, samples, drop))) and (n == 1 or not any(ran(often(n - 1, samples, drop))))
     say('Also to know (lengths %d and %d)' % (OVER, LOSS))
-    # Paper 3 is proved and not computed (`read-no-bytes`, `read-cut` in crate reader)
+    # Paper 3 is proved and not computed (`read_no_bytes`, `read_cut` in crate reader)
     cite('A capture of no bytes is a unit that has recorded nothing (Paper 3)', 'cut at any other place it is refused (by 8')
     # sums of smaller numbers are smaller until one wraps, which these do not: 1,000 in each place is the worst of them
     small = 1000
