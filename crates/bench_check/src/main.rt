@@ -39,5 +39,6 @@ fn main(rt: HostRuntime) -> io::Result<()> {
     show(&rt, "9-enable-5-80.p6k")?;
     show(&rt, "order-9-change-before-7.p6k")?;
     show(&rt, "10-tail-ff-1.p6k")?;
-    show(&rt, "longest.p6k")
+    show(&rt, "longest.p6k")?;
+    Ok(())
 }
