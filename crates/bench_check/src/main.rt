@@ -4,18 +4,16 @@
 
 use std::fs::File;
 use std::io;
-use std::io::Read;
 use std::rt::Files;
 
 // One capture's name and its report.
-fn show(rt: &(impl Files + Alloc + Print), path: &str) -> io::Result<()> {
-    let mut input = Vec::new(rt.alloc());
-    File::open(rt, path)?
-        .take(report::INPUT as u64)
-        .read_to_end(&mut input)?;
+fn show(rt: &(impl Files + Print), path: &str) -> io::Result<()> {
+    let mut bytes = [0u8; report::INPUT];
+    let input = input::read_all(&mut File::open(rt, path)?, &mut bytes);
+    let n = input.count;
     rt.println(path)?;
     let mut text = [0u8; report::ROOM];
-    let m = report::report(&input, &mut text);
+    let m = report::report(&bytes[..n], &mut text);
     rt.write_all(&text[..m])
 }
 

@@ -5,7 +5,7 @@
 use frames::bits::bit;
 use relay::{FrameAnswer, Lengths, Levels, Relay, Settings};
 use std::io;
-use std::io::{BufWriter, Write};
+use std::io::Write;
 
 // 100, 71, 0, −71, −100, −71, 0, 71 as codes, from slot 0.
 const WAVE: [u16; 8] = [612, 583, 512, 441, 412, 441, 512, 583];
@@ -196,7 +196,7 @@ fn save_and_load() -> bool {
 
 // The figures, then the checklist.
 fn main(rt: HostRuntime) -> io::Result<()> {
-    let mut out = BufWriter::new(rt.alloc(), io::writer(&rt))?;
+    let mut out = io::writer(&rt);
     put_line(
         &mut out,
         b"wave on channel 3, pickup 1603, over latch in frame ",
@@ -244,5 +244,5 @@ fn main(rt: HostRuntime) -> io::Result<()> {
         reset_one_phase(),
     )?;
     put_check(&mut out, b"save and load", save_and_load())?;
-    out.flush()
+    Ok(())
 }

@@ -7,7 +7,7 @@ ghost use Rattle.std.specs.Prelude.{◌^◌, ◌<◌};
 
 use relay::{Lengths, Levels, Relay, Settings};
 use std::io;
-use std::io::{BufWriter, Write};
+use std::io::Write;
 
 // Hundredths of a peak by slot, those that add and those that take away: 100, 71, 0, −71, −100, −71, 0, 71 for the
 // fundamental, 100, 0, −100, 0, 100, 0, −100, 0 for the second harmonic.
@@ -285,12 +285,12 @@ fn play_setting<W: Write>(out: &mut W, k: u8, seed: u32) -> io::Result<u32> {
 
 // Each setting goes on where the generator stands.
 fn main(rt: HostRuntime) -> io::Result<()> {
-    let mut out = BufWriter::new(rt.alloc(), io::writer(&rt))?;
+    let mut out = io::writer(&rt);
     let mut state: u32 = 1;
     let mut k: u8 = 0;
     while k < SETTINGS {
         state = play_setting(&mut out, k, state)?;
         k += 1;
     }
-    out.flush()
+    Ok(())
 }

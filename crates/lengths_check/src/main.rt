@@ -7,7 +7,7 @@
 
 use relay::{Channel, FrameAnswer, Lengths, Levels, Relay, Settings};
 use std::io;
-use std::io::{BufWriter, Write};
+use std::io::Write;
 
 // 100, 71, 0, −71, −100, −71, 0, 71 as codes: its amplitude is 1603.
 const WAVE: [u16; 8] = [612, 583, 512, 441, 412, 441, 512, 583];
@@ -315,7 +315,7 @@ fn one_bad_sample<W: Write>(out: &mut W, name: &[u8], loss: u8, over: u8) -> io:
 
 // The table, the refusals, the scenes. An over length of eight trips on one bad sample, and nine does not.
 fn main(rt: HostRuntime) -> io::Result<()> {
-    let mut out = BufWriter::new(rt.alloc(), io::writer(&rt))?;
+    let mut out = io::writer(&rt);
     sweep(&mut out)?;
     fresh(&mut out)?;
     one_and_one(&mut out)?;
@@ -324,5 +324,5 @@ fn main(rt: HostRuntime) -> io::Result<()> {
     over_anew(&mut out)?;
     one_bad_sample(&mut out, b"one bad sample, eight\n", 9, 8)?;
     one_bad_sample(&mut out, b"one bad sample, nine\n", 9, 9)?;
-    out.flush()
+    Ok(())
 }

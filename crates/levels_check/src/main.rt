@@ -5,7 +5,7 @@
 
 use relay::{Channel, Lengths, Levels, Relay, Settings};
 use std::io;
-use std::io::{BufWriter, Write};
+use std::io::Write;
 
 // 100, 71, 0, −71, −100, −71, 0, 71 as codes: its amplitude is 1603.
 const WAVE: [u16; 8] = [612, 583, 512, 441, 412, 441, 512, 583];
@@ -226,7 +226,7 @@ fn loss_raised_and_lowered<W: Write>(out: &mut W) -> io::Result<()> {
 
 // Over runs first, then loss runs.
 fn main(rt: HostRuntime) -> io::Result<()> {
-    let mut out = BufWriter::new(rt.alloc(), io::writer(&rt))?;
+    let mut out = io::writer(&rt);
     unchanged(&mut out)?;
     summer(&mut out)?;
     raised_and_lowered(&mut out)?;
@@ -239,5 +239,5 @@ fn main(rt: HostRuntime) -> io::Result<()> {
     loss(&mut out)?;
     loss_kept(&mut out)?;
     loss_raised_and_lowered(&mut out)?;
-    out.flush()
+    Ok(())
 }

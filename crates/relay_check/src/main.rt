@@ -8,10 +8,9 @@ ghost use Rattle.std.specs.Prelude.{◌^◌, ◌<◌};
 
 use relay::{Lengths, Levels, Relay, Settings};
 use std::io;
-use std::io::Read;
 
 // So many bytes are read at most.
-const MOST_INPUT: u64 = 4096;
+const MOST_INPUT: usize = 4096;
 
 // The frames of full runs: those of the bench program.
 const BENCH_LENGTHS: Lengths = Lengths { loss: 16, over: 4 };
@@ -121,10 +120,8 @@ fn run(frames: u64, first: u8) -> u64 {
 
 // 64 frames for each byte of the input, and their sum.
 fn main(rt: HostRuntime) -> io::Result<()> {
-    let mut input = Vec::new(rt.alloc());
-    rt.stdin().take(MOST_INPUT).read_to_end(&mut input)?;
-    // No more came; but no contract of `read_to_end` says so.
-    let got = (input.len() as u64).min(MOST_INPUT);
-    let first = input.first().copied().unwrap_or(0);
-    println!(rt; "{}", run(64 * got, first))
+    let mut bytes = [0u8; MOST_INPUT];
+    let input = input::read_all(&mut rt.stdin(), &mut bytes);
+    let got = input.count as u64;
+    println!(rt; "{}", run(64 * got, bytes[0]))
 }

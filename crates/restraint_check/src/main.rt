@@ -8,11 +8,11 @@ ghost use Rattle.std.specs.Prelude.{◌<◌, ◌≤◌};
 use relay::{Lengths, Levels, Relay, Settings};
 use std::fs::File;
 use std::io;
-use std::io::{BufWriter, Read, Write};
+use std::io::Write;
 use std::rt::Files;
 
 // Room for each of the captures, in bytes and in frames.
-const INPUT: u64 = 4096;
+const INPUT: usize = 4096;
 
 const MOST: usize = 256;
 
@@ -94,25 +94,21 @@ fn show_capture<W: Write>(out: &mut W, bytes: &[u8], restraint: u8) -> io::Resul
 }
 
 // One capture's name and restraint level, and its report.
-fn show<W: Write>(
-    rt: &(impl Files + Alloc),
-    out: &mut W,
-    path: &str,
-    restraint: u8,
-) -> io::Result<()> {
-    let mut input = Vec::new(rt.alloc());
-    File::open(rt, path)?.take(INPUT).read_to_end(&mut input)?;
+fn show<W: Write>(rt: &impl Files, out: &mut W, path: &str, restraint: u8) -> io::Result<()> {
+    let mut bytes = [0u8; INPUT];
+    let input = input::read_all(&mut File::open(rt, path)?, &mut bytes);
+    let n = input.count;
     out.write_all(path.as_bytes())?;
     show_number(out, b" restraint ", restraint as u64)?;
-    show_capture(out, &input, restraint)
+    show_capture(out, &bytes[..n], restraint)
 }
 
 // Magnetising current trips a relay without restraint and no other; a fault trips one with restraint too.
 fn main(rt: HostRuntime) -> io::Result<()> {
-    let mut out = BufWriter::new(rt.alloc(), io::writer(&rt))?;
+    let mut out = io::writer(&rt);
     show(&rt, &mut out, "inrush.p6k", 0)?;
     show(&rt, &mut out, "inrush.p6k", 15)?;
     show(&rt, &mut out, "inrush-then-fault.p6k", 15)?;
     show(&rt, &mut out, "over-3.p6k", 15)?;
-    out.flush()
+    Ok(())
 }

@@ -4,7 +4,7 @@
 
 use relay::{Lengths, Levels, Relay, Settings};
 use std::io;
-use std::io::{BufWriter, Write};
+use std::io::Write;
 
 // 100, 71, 0, −71, −100, −71, 0, 71 as codes: its amplitude is 1603.
 const WAVE: [u16; 8] = [612, 583, 512, 441, 412, 441, 512, 583];
@@ -66,7 +66,7 @@ fn reset_after<W: Write>(out: &mut W, relay: Relay, n: u16) -> io::Result<Relay>
 
 // Each frame, and the reset that follows it.
 fn main(rt: HostRuntime) -> io::Result<()> {
-    let mut out = BufWriter::new(rt.alloc(), io::writer(&rt))?;
+    let mut out = io::writer(&rt);
     let levels = Levels {
         drop: [1; 6],
         pickup: [1603; 3],
@@ -83,5 +83,5 @@ fn main(rt: HostRuntime) -> io::Result<()> {
         relay = reset_after(&mut out, seen, n)?;
         n += 1;
     }
-    out.flush()
+    Ok(())
 }

@@ -7,7 +7,7 @@ ghost use Rattle.std.specs.Prelude.{◌≤◌};
 
 use relay::{Channel, Lengths, Levels, Relay, Settings};
 use std::io;
-use std::io::{BufWriter, Write};
+use std::io::Write;
 
 // 100, 71, 0, −71, −100, −71, 0, 71 as codes: its amplitude is 1603.
 const WAVE: [u16; 8] = [612, 583, 512, 441, 412, 441, 512, 583];
@@ -310,11 +310,11 @@ fn show_fields<W: Write>(out: &mut W, relay: Relay) -> io::Result<()> {
 }
 
 fn main(rt: HostRuntime) -> io::Result<()> {
-    let mut out = BufWriter::new(rt.alloc(), io::writer(&rt))?;
+    let mut out = io::writer(&rt);
     let relay = show_frame(&mut out, begun(), LAST)?;
     show_strokes(&mut out, relay)?;
     show_others(&mut out, relay)?;
     show_pairs(&mut out, relay)?;
     show_fields(&mut out, relay)?;
-    out.flush()
+    Ok(())
 }
