@@ -1,6 +1,6 @@
-// Makes a capture for the demonstrator. It reads 55 numbers from standard input, 220 bytes, the oldest number first, each
-// four bytes with the lowest first, and writes the capture of the 4,096 frames that they make. All numbers even: the
-// line `refused 24` alone. Not 220 bytes: the line `220 bytes are wanted` alone. A read that fails: nothing at all,
+// Makes a capture for the demonstrator. It reads 55 numbers from standard input, 220 bytes, the oldest number first,
+// each four bytes with the lowest first, and writes the capture of the 4,096 frames that they make. All numbers even:
+// the line `refused 24` alone. Not 220 bytes: the line `220 bytes are wanted` alone. A read that fails: nothing at all,
 // which a reader takes for a unit that has recorded nothing.
 #![tactic(auto)]
 
