@@ -96,7 +96,7 @@ fn example() {
 /// What the program writes where its input is this one; never anything to standard error.
 fn on(input: impl Into<Stdio>) -> String {
     let output = Command::new(root().join("crates/bench/out/bench")).stdin(input).output().unwrap();
-    assert!(output.stderr.is_empty());
+    assert!(output.status.success() && output.stderr.is_empty());
     String::from_utf8(output.stdout).unwrap()
 }
 
@@ -127,7 +127,7 @@ fn a_read_that_fails_prints_no_line() {
     assert_eq!(on(std::fs::File::open(root()).unwrap()), "");
     assert_eq!(on(std::fs::OpenOptions::new().write(true).open("/dev/null").unwrap()), "");
     let closed = Command::new("sh").args(["-c", "exec \"$0\" <&-"]).arg(root().join("crates/bench/out/bench")).output().unwrap();
-    assert!(closed.stdout.is_empty() && closed.stderr.is_empty());
+    assert!(closed.status.success() && closed.stdout.is_empty() && closed.stderr.is_empty());
     for (bytes, text) in [(&b""[..], "frames 0\n"), (b"P6", "refused 8\n"), (b"P6K\0", "frames 0\n"), (b"?", "refused 6\n")] {
         assert_eq!(on(socket(bytes, false)), text);
         assert_eq!(on(socket(bytes, true)), "", "{bytes:02X?} and a read that fails");

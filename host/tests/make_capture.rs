@@ -91,7 +91,7 @@ fn a_line_is_no_capture() {
 fn a_read_that_fails_prints_nothing() {
     assert_eq!(on("make_capture", std::fs::File::open(env!("CARGO_MANIFEST_DIR")).unwrap()), b"");
     let closed = Command::new("sh").args(["-c", "exec \"$0\" <&-"]).arg(program("make_capture")).output().unwrap();
-    assert!(closed.stdout.is_empty() && closed.stderr.is_empty());
+    assert!(closed.status.success() && closed.stdout.is_empty() && closed.stderr.is_empty());
     for length in [0, 1, 219, GIVEN_BYTES] {
         assert_eq!(on("make_capture", socket(&vec![1; length], 5000, true)), b"", "{length} bytes and a read that fails");
     }

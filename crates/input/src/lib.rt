@@ -1,4 +1,5 @@
-// Standard input for the programs: what came in, and whether a read failed behind it. No entry point stands here.
+// What programs read into a fixed buffer, from standard input or a file: what came in, and whether a read failed behind
+// it. No entry point stands here.
 #![tactic(auto)]
 
 ghost use Rattle.std.specs.Prelude.{◌≡◌, ◌<◌, ◌≤◌, false, length, take};
@@ -13,9 +14,9 @@ pub struct Input {
     pub failed: bool,
 }
 
-// Reads until the buffer is full, the input ends or a read fails. std's `read_exact` tells neither the last two apart
-// nor how many bytes came. Which of these it is, and which bytes standard input gives, is the system's: no contract
-// says it. Of a source whose bytes are known these are the first, and all where no read failed and room is left.
+// Reads until the buffer is full, the input ends or a read fails; std's `read_exact` does not say how many bytes came.
+// Which of the three it is, and which bytes standard input gives, is the system's: no contract says it. Of a source
+// whose bytes are known these are the first, and all where no read failed and room is left.
 pub fn read_all<R: Read>(source: &mut R, buf: &mut [u8]) -> Input
     ensures within { result.count ≤ length buf.new }
     ensures front { result.count ≡ length (take result.count buf.new) }
