@@ -8,7 +8,9 @@ use native.Mathlib.Omega.{arith}
 use Rattle.lists.proofs.Lists.{up_from}
 use Rattle.cells.specs.Excerpt.{place_of, Excerpt}
 use Rattle.frames.specs.Codes.{sample_of}
-use Rattle.cells.specs.Strongest.{squared, channel_codes, squares, window_sum, window_found, strongest_refusal, strongest_of}
+use Rattle.cells.specs.Strongest.{squared, channel_codes, squares, window_sum, window_found, strongest_refusal, strongest_of, strongest_answer}
+use Rattle.std.specs.Prelude.{Ok, Err}
+use Rattle.refusals.specs.declared.Refusal.TheVariants.{FewFrames}
 use Rattle.cells.proofs.Computed.{computed}
 use Rattle.cells.proofs.Excerpts.{place_shape, past, place_part}
 
@@ -154,6 +156,9 @@ pub record StrongestCalls : Type 0 where
       × (strongest_of (copies 6 (framed 512 512 0) ++ framed 512 512 128) 0 ≡ record { refusal = 9; sum = 0; frame = 0 })
   pub no_frames_channel : strongest_of [] 6 ≡ record { refusal = 12; sum = 0; frame = 0 }
   pub channel_7_bad : strongest_of (copies 8 (framed 1024 513 128)) 7 ≡ record { refusal = 12; sum = 0; frame = 0 }
+  -- what is answered, in numbers
+  pub answered : (strongest_answer (Ok (record { sum = 8; frame = 256 })) ≡ record { refusal = 0; sum = 8; frame = 256 })
+      × (strongest_answer (Err FewFrames) ≡ record { refusal = 13; sum = 0; frame = 0 })
   -- sums of windows near and far, of every code, and a channel's codes in four hundred frames
   pub last_window : window_sum (replicate 4088 512 ++ replicate 8 513) 4088 ≡ 8
   pub windows : map (window_sum (up_from 512 300)) (0 ∷ 3 ∷ 100 ∷ 200 ∷ 292 ∷ []) ≡ 140 ∷ 380 ∷ 85740 ∷ 331340 ∷ 698604 ∷ []
@@ -208,6 +213,7 @@ strongests =
       range_first = refl;
       enable_before_few = refl;
       few_last_cell = (refl, refl);
+      answered = (refl, refl);
       last_window = refl;
       windows = refl;
       all_codes = refl;

@@ -2,7 +2,7 @@
 use Prim.Native.Nat.{ℕ, zero, suc, ◌+◌, ◌-◌, ◌≤◌, ◌<◌}
 use mathlib.Core.Path.{◌≡◌, refl, sym, ◌∙◌, ap}
 use mathlib.Core.List.{List, [], ◌∷◌}
-use lib.ListN.{length, get_or, take, drop, drop_of_length-le}
+use lib.ListN.{length, get_or, take, drop}
 use lib.Seq.{take-nil, drop-cons, drop-drop}
 use native.Mathlib.Numerals.{add-one}
 use native.Mathlib.Omega.{arith}
@@ -11,7 +11,7 @@ use Rattle.cells.specs.Strongest.{squared, squares, window_sum}
 use Rattle.cells.specs.Rolling.{square_at, rolled_on, carried_to}
 
 -- The first m of some codes, and the n behind them; where they are fewer too.
-squares_split : (m n : ℕ) (codes : List ℕ) → squares (take (m + n) codes) ≡ squares (take m codes) + squares (take n (drop m codes))
+pub squares_split : (m n : ℕ) (codes : List ℕ) → squares (take (m + n) codes) ≡ squares (take m codes) + squares (take n (drop m codes))
 unfolding squares
 squares_split zero n codes = let e : 0 + n ≡ n = omega arith in rw e (omega arith)
 squares_split (suc m) n [] = rw (take-nil (suc m + n), take-nil n)
@@ -37,14 +37,10 @@ module _ (codes : List ℕ) (f : ℕ) where
   unfolding rolled_on
   window_rolls = omega (arith, window_next)
 
-  -- The square of a frame that there is, by its code, and of one that there is not.
+  -- The square of a frame that there is, by its code.
   pub square_at_lem : f < length codes → square_at codes f ≡ squared (sample_of (get_or codes f 0))
   unfolding square_at squares
   square_at_lem h = rw (drop-cons codes f 0 h) (omega arith)
-
-  pub square_past : length codes ≤ f → square_at codes f ≡ 0
-  unfolding square_at squares
-  square_past h = rw (drop_of_length-le codes h)
 
 -- The step by the codes, from any number: that of the frame after the window's last enters, that of its first leaves.
 pub rolled_codes : (codes : List ℕ) (f sum : ℕ) → f + 8 < length codes

@@ -6,25 +6,30 @@ use mathlib.Core.List.{List, [], ◌∷◌}
 use mathlib.Core.Bool.{Bool, true, false, cond}
 use lib.ListN.{length, get_or, take, drop, get_or-eq_default}
 use lib.IntN.{nat_abs, pos, negsuc}
-use lib.Seq.{drop-cons, get_or-drop}
+use lib.Seq.{get_or-drop, drop-drop}
 use native.Mathlib.Nat.{mul-le-mul}
 use native.Mathlib.Numerals.{add-one}
-use native.Mathlib.Omega.{arith}
 use mir.Val.{Fits}
 use mir.Syntax.{w32}
-use borrow.Author.Tests.{le-ltb, lt-ltb, ltb-true, ltb-false, le-leb, lt-leb, ne_eqb}
+use native.Mathlib.Omega.{arith}
+use borrow.Author.Tests.{ltb-true, ltb-false, le-leb, lt-leb, ne_eqb}
 use lib.Dec.{ltb, leb}
-use Rattle.refusals.specs.Refusals.{Check, ◌or_else◌, first_fault, accepted, wrong_shape, few_frames}
+use Rattle.std.specs.Result.{IsErrAnd}
+use Rattle.std.specs.Prelude.{Result, Ok, Err}
+use Rattle.refusals.specs.declared.Refusal.{Refusal}
+use Rattle.refusals.proofs.Exits.{number_not_zero}
+use Rattle.refusals.specs.Refusals.{Check, ◌or_else◌, first_fault, accepted, wrong_shape, few_frames, number_of}
 use Rattle.frames.specs.Codes.{code_limit, middle_code, sample_of}
 use Rattle.frames.specs.Cells.{frames_in, cell_checks}
 use Rattle.frames.proofs.Ranges.{ranges_code}
 use Rattle.frames.proofs.Checks.{cells_sound, cells_refused, cells_passed}
 use Rattle.cells.specs.declared.StrongestWindow.{StrongestWindow}
-use Rattle.cells.specs.Strongest.{squared, channel_codes, codes_of, squares, window_sum, window_found}
-use Rattle.cells.specs.Strongest.{stronger_of, strongest_up_to, strongest_in, strongest_refusal, strongest_of}
+use Rattle.cells.specs.declared.Window.{Window}
+use Rattle.cells.specs.Strongest.{squared, channel_codes, codes_of, squares, window_sum, window_found, found}
+use Rattle.cells.specs.Strongest.{stronger_of, strongest_up_to, strongest_in, strongest_refusal, strongest_of, strongest_answer}
 use Rattle.cells.specs.Rolling.{square_at, rolled_on, carried_to}
 use Rattle.cells.specs.Internal.{ChannelRight, most_square}
-use Rattle.cells.proofs.Rolling.{leaving_within, square_at_lem, rolled_codes, carried_is}
+use Rattle.cells.proofs.Rolling.{squares_split, leaving_within, square_at_lem, carried_is}
 
 -- ---- squares
 
@@ -58,70 +63,42 @@ codes_at channel (suc n) cells (suc i) h =
     let e : 7 + (7 * i + channel) ≡ 7 * suc i + channel = omega arith in
     codes_at channel n (drop 7 cells) i (omega arith) ∙ get_or-drop 7 cells (7 * i + channel) 0 ∙ ap (λ (k : ℕ). get_or cells k 0) e
 
+-- ---- the square of a frame
+
+module _ (cells : List ℕ) (channel f : ℕ) (R : ChannelRight cells channel) (h : f < frames_in cells) where
+  pub square_here : (own : ℕ) → own ≡ squared (sample_of (get_or cells (7 * f + channel) 0)) → own ≡ square_at (codes_of cells channel) f
+  square_here own e =
+      let l : f < length (codes_of cells channel) = omega (arith, codes_length channel (frames_in cells) cells) in
+      e ∙ ap (λ (c : ℕ). squared (sample_of c)) (sym (codes_at channel (frames_in cells) cells f h)) ∙ sym (square_at_lem (codes_of cells channel) f l)
+
 -- ---- the sum of a window
 
-squares_step : (codes : List ℕ) (f k : ℕ) → k < 8 → f + k < length codes
-    → squares (take (8 - k) (drop (f + k) codes))
-    ≡ squared (sample_of (get_or codes (f + k) 0)) + squares (take (8 - (k + 1)) (drop (f + (k + 1)) codes))
-unfolding squares
-squares_step codes f k h l =
-    let e : 8 - k ≡ suc (8 - (k + 1)) = omega arith in
-    let g : f + (k + 1) ≡ suc (f + k) = omega arith in
-    rw (e, g, drop-cons codes (f + k) 0 l)
-
-squares_end : (codes : List ℕ) (k j : ℕ) → 8 ≤ k → squares (take (8 - k) (drop j codes)) ≡ 0
-unfolding squares
-squares_end codes k j h = let e : 8 - k ≡ 0 = omega arith in rw e
-
-pub record WindowRead (cells : List ℕ) (channel f sum k : ℕ) : Type 0 where
-  pub low : k ≤ 8
-  pub right : ChannelRight cells channel
-  pub inside : f + 8 ≤ frames_in cells
+-- The first k of its eight squares are added.
+pub record WindowRead (codes : List ℕ) (f sum k : ℕ) : Type 0 where
   pub bounded : sum ≤ most_square * k
-  pub is : sum + squares (take (8 - k) (drop (f + k) (codes_of cells channel))) ≡ window_sum (codes_of cells channel) f
+  pub is : sum ≡ squares (take k (drop f codes))
 
-module _ (cells : List ℕ) (channel f : ℕ) where
-  pub window_begin : ChannelRight cells channel → f + 8 ≤ frames_in cells → WindowRead cells channel f 0 0
-  unfolding window_sum
-  window_begin R h =
-      let e : f + 0 ≡ f = omega arith in
+module _ (codes : List ℕ) (f : ℕ) where
+  pub window_begin : WindowRead codes f 0 0
+  unfolding squares
+  window_begin = record { bounded = omega arith; is = refl }
+
+  pub window_again : (sum k own : ℕ) → WindowRead codes f sum k → own ≡ square_at codes (f + k) → own ≤ most_square
+      → WindowRead codes f (sum + own) (k + 1)
+  unfolding square_at
+  window_again sum k own I e h =
       record {
-        low = omega arith;
-        right = R;
-        inside = h;
-        bounded = omega arith;
-        is = omega (arith, ap (λ (j : ℕ). squares (take 8 (drop j (codes_of cells channel)))) e);
+        bounded = omega (arith, I.bounded);
+        is = omega (arith, I.is, e, squares_split k 1 (drop f codes), ap (λ (l : List ℕ). squares (take 1 l)) (drop-drop k f codes));
       }
 
-  module _ (sum k : ℕ) (I : WindowRead cells channel f sum k) where
-    pub window_inside : k < 8 → 7 * (f + k) + channel < length cells
-    window_inside h = omega (arith, I.right.whole, I.right.channel_is, I.inside)
+  pub window_done : (sum k : ℕ) → WindowRead codes f sum k → 8 ≤ k → k ≤ 8 → sum ≡ window_sum codes f
+  unfolding window_sum
+  window_done sum k I h l = let e : k ≡ 8 = omega arith in rw e at I.is
 
-    pub window_code : get_or cells (7 * (f + k) + channel) 0 < code_limit
-    window_code = I.right.codes (f + k)
+pub ruleset window_cases = (window_begin, window_again, window_done)
 
-    pub window_again : (own : ℕ) → k < 8 → SquareOf (get_or cells (7 * (f + k) + channel) 0) own
-        → WindowRead cells channel f (sum + own) (k + 1)
-    window_again own h e =
-        let cs = codes_of cells channel in
-        let g : f + k < frames_in cells = omega (arith, I.inside) in
-        let q = squares_step cs f k h (omega (arith, codes_length channel (frames_in cells) cells)) in
-        let same = codes_at channel (frames_in cells) cells (f + k) g in
-        let v : own ≡ squared (sample_of (get_or cs (f + k) 0)) = e.0 ∙ ap (λ (c : ℕ). squared (sample_of c)) (sym same) in
-        record {
-          low = omega arith;
-          right = I.right;
-          inside = I.inside;
-          bounded = omega (arith, I.bounded, e.1);
-          is = omega (arith, q, v, I.is);
-        }
-
-    pub window_done : 8 ≤ k → sum ≡ window_sum (codes_of cells channel) f
-    window_done h = omega (arith, I.is, squares_end (codes_of cells channel) k (f + k) h)
-
-pub ruleset window_cases = (window_begin, window_inside, window_code, window_again, window_done)
-
--- ---- one window on
+-- ---- the loop over the windows
 
 squares_small : (n : ℕ) (codes : List ℕ) → ((i : ℕ) → get_or codes i 0 < code_limit) → squares (take n codes) ≤ most_square * n
 unfolding squares
@@ -148,122 +125,70 @@ module _ (cells : List ℕ) (channel f : ℕ) (R : ChannelRight cells channel) w
   unfolding window_sum
   window_small = squares_small 8 (drop f (codes_of cells channel)) (λ i. rw (get_or-drop f (codes_of cells channel) i 0) (code_small (f + i)))
 
-  module _ (h : f + 8 < frames_in cells) where
-    square_here : (i own : ℕ) → i < frames_in cells → SquareOf (get_or cells (7 * i + channel) 0) own
-        → own ≡ squared (sample_of (get_or (codes_of cells channel) i 0))
-    square_here i own l e = e.0 ∙ ap (λ (c : ℕ). squared (sample_of c)) (sym (codes_at channel (frames_in cells) cells i l))
-
-    inside : f + 8 < length (codes_of cells channel)
-    inside = omega (arith, codes_length channel (frames_in cells) cells)
-
-    pub entering_inside : 7 * (f + 8) + channel < length cells
-    entering_inside = omega (arith, R.whole, R.channel_is)
-
-    pub leaving_inside : 7 * f + channel < length cells
-    leaving_inside = omega (arith, R.whole, R.channel_is)
-
-    pub entering_code : get_or cells (7 * (f + 8) + channel) 0 < code_limit
-    entering_code = R.codes (f + 8)
-
-    pub leaving_code : get_or cells (7 * f + channel) 0 < code_limit
-    leaving_code = R.codes f
-
-    module _ (sum entering leaving : ℕ) (w : (square_at (codes_of cells channel) f ≤ sum) × (sum ≤ most_square * 8))
-        (e : SquareOf (get_or cells (7 * (f + 8) + channel) 0) entering) (l : SquareOf (get_or cells (7 * f + channel) 0) leaving) where
-      pub rolled_less : leaving ≤ sum + entering
-      rolled_less = omega (arith, w.0, square_here f leaving (omega arith) l, square_at_lem (codes_of cells channel) f (omega (arith, inside)))
-
-      pub rolled_is : sum + entering - leaving ≡ rolled_on (codes_of cells channel) f sum
-      rolled_is =
-          rw (square_here (f + 8) entering (omega arith) e, square_here f leaving (omega arith) l)
-          (sym (rolled_codes (codes_of cells channel) f sum inside))
-
-pub ruleset rolled_cases =
-    (entering_inside, leaving_inside, entering_code, leaving_code, rolled_fits, rolled_less, rolled_is)
-
--- ---- the loop over the windows
-
-module _ (before : StrongestWindow) (sum f : ℕ) where
-  pub stronger_new : before.sum < sum → window_found accepted sum f ≡ stronger_of before sum f
-  stronger_new h = rw (lt-ltb before.sum sum h)
-
-  pub stronger_old : sum ≤ before.sum → before ≡ stronger_of before sum f
-  stronger_old h = rw (le-ltb before.sum sum h)
-
 -- The sum is the one carried along to frame f.
-pub record StrongestRead (cells : List ℕ) (channel sum : ℕ) (best : StrongestWindow) (f : ℕ) : Type 0 where
-  pub low : f ≤ frames_in cells - 8
-  pub right : ChannelRight cells channel
-  pub sum_is : sum ≡ carried_to (codes_of cells channel) f
-  pub is : best ≡ strongest_up_to (codes_of cells channel) f
+pub record StrongestRead (codes : List ℕ) (sum : ℕ) (best : Window) (f : ℕ) : Type 0 where
+  pub sum_is : sum ≡ carried_to codes f
+  pub is : found best ≡ strongest_up_to codes f
 
-module _ (cells : List ℕ) (channel : ℕ) where
-  pub strongest_first : ChannelRight cells channel → 0 + 8 ≤ frames_in cells
-  strongest_first R = R.enough
-
-  pub strongest_begin : (sum : ℕ) → ChannelRight cells channel → sum ≡ window_sum (codes_of cells channel) 0
-      → StrongestRead cells channel sum (window_found accepted sum 0) 0
+module _ (codes : List ℕ) where
+  pub strongest_begin : (sum : ℕ) → sum ≡ window_sum codes 0 → StrongestRead codes sum (record { sum = sum; frame = 0 }) 0
   unfolding strongest_up_to carried_to
-  strongest_begin sum R e = record { low = omega arith; right = R; sum_is = e; is = rw e }
+  strongest_begin sum e = record { sum_is = e; is = rw e }
 
-  module _ (sum : ℕ) (best : StrongestWindow) (f : ℕ) (I : StrongestRead cells channel sum best f) where
-    pub strongest_right : ChannelRight cells channel
-    strongest_right = I.right
+  module _ (sum : ℕ) (best : Window) (f : ℕ) (I : StrongestRead codes sum best f) where
+    sum_here : sum ≡ window_sum codes f
+    sum_here = I.sum_is ∙ carried_is codes f
 
-    pub strongest_next : f < frames_in cells - 8 → f + 8 < frames_in cells
-    strongest_next h = omega arith
+    pub strongest_leaving : square_at codes f ≤ sum
+    strongest_leaving = omega (arith, sum_here, leaving_within codes f)
 
-    sum_here : sum ≡ window_sum (codes_of cells channel) f
-    sum_here = I.sum_is ∙ carried_is (codes_of cells channel) f
-
-    pub strongest_leaving : square_at (codes_of cells channel) f ≤ sum
-    strongest_leaving = omega (arith, sum_here, leaving_within (codes_of cells channel) f)
-
-    pub strongest_small : sum ≤ most_square * 8
-    strongest_small = omega (arith, sum_here, window_small cells channel f I.right)
-
-    pub strongest_again : (on : ℕ) (next : StrongestWindow) → f < frames_in cells - 8 → on ≡ rolled_on (codes_of cells channel) f sum
-        → next ≡ stronger_of best on (f + 1) → StrongestRead cells channel on next (f + 1)
+    pub strongest_again : (on : ℕ) (next : Window) → on ≡ rolled_on codes f sum → found next ≡ stronger_of (found best) on (f + 1)
+        → StrongestRead codes on next (f + 1)
     unfolding strongest_up_to carried_to
-    strongest_again on next h e q =
-        let c : on ≡ carried_to (codes_of cells channel) (suc f) = e ∙ ap (rolled_on (codes_of cells channel) f) I.sum_is in
-        let w : on ≡ window_sum (codes_of cells channel) (suc f) = c ∙ carried_is (codes_of cells channel) (suc f) in
-        record { low = omega arith; right = I.right; sum_is = rw (add-one f) c; is = q ∙ rw (add-one f) (rw (w, I.is)) }
+    strongest_again on next e q =
+        let c : on ≡ carried_to codes (suc f) = e ∙ ap (rolled_on codes f) I.sum_is in
+        let w : on ≡ window_sum codes (suc f) = c ∙ carried_is codes (suc f) in
+        record { sum_is = rw (add-one f) c; is = q ∙ rw (add-one f, w) (ap (λ (b : StrongestWindow). stronger_of b (window_sum codes (suc f)) (suc f)) I.is) }
 
-    pub strongest_done : frames_in cells - 8 ≤ f → best ≡ strongest_up_to (codes_of cells channel) (frames_in cells - 8)
-    strongest_done h = let e : f ≡ frames_in cells - 8 = omega (arith, I.low) in I.is ∙ ap (strongest_up_to (codes_of cells channel)) e
+pub strongest_small : (cells : List ℕ) (channel sum : ℕ) (best : Window) (f : ℕ) → ChannelRight cells channel
+    → StrongestRead (codes_of cells channel) sum best f → sum ≤ most_square * 8
+strongest_small cells channel sum best f R I = omega (arith, sum_here (codes_of cells channel) sum best f I, window_small cells channel f R)
 
-pub ruleset strongest_loop =
-    (strongest_first, strongest_begin, strongest_right, strongest_next, strongest_leaving, strongest_small, strongest_again, strongest_done)
+pub ruleset strongest_loop = (strongest_begin, strongest_leaving, strongest_small, strongest_again)
 
 -- ---- strongest: the cases as the code returns them
 
 module _ (cells : List ℕ) (channel : ℕ) where
-  refused : (k : ℕ) (r : StrongestWindow) → strongest_refusal cells channel ≡ k → (k ≡ accepted → ⊥) → r ≡ window_found k 0 0
-      → r ≡ strongest_of cells channel
+  refused : (k : ℕ) → strongest_refusal cells channel ≡ k → (k ≡ accepted → ⊥) → window_found k 0 0 ≡ strongest_of cells channel
   unfolding strongest_of
-  refused k r e h q = q ∙ sym (rw e (rw (ne_eqb k accepted h)))
+  refused k e h = sym (rw e (rw (ne_eqb k accepted h)))
 
-  pub strongest_channel : (r : StrongestWindow) → r ≡ window_found wrong_shape 0 0 → 5 < channel → r ≡ strongest_of cells channel
-  strongest_channel r q h = refused wrong_shape r (rw (lt-leb channel 5 h)) (λ z. omega arith) q
+  pub strongest_channel : 5 < channel → window_found wrong_shape 0 0 ≡ strongest_of cells channel
+  strongest_channel h = refused wrong_shape (rw (lt-leb channel 5 h)) (λ z. omega arith)
 
-  module _ (c : channel ≤ 5) (k : ℕ) (e : k ≡ first_fault (cell_checks cells)) where
-    abbrev enough : List Check
-    enough = (leb 8 (frames_in cells) or_else few_frames) ∷ []
+  abbrev enough : List Check
+  enough = (leb 8 (frames_in cells) or_else few_frames) ∷ []
 
-    pub strongest_cells : (r : StrongestWindow) → r ≡ window_found k 0 0 → (k ≡ accepted → ⊥) → r ≡ strongest_of cells channel
-    strongest_cells r q h = refused k r (rw (le-leb channel 5 c) (cells_refused cells k e enough h)) h q
+  -- What the check of the cells refuses, handed on.
+  pub strongest_cells : (r : Result Window Refusal) (refusal : Refusal) → IsErrAnd r (λ e. e ≡ refusal) → channel ≤ 5
+      → number_of refusal ≡ first_fault (cell_checks cells) → strongest_answer r ≡ strongest_of cells channel
+  strongest_cells (Ok w) refusal is c e = absurd is
+  strongest_cells (Err y) refusal is c e =
+      ap (λ (z : Refusal). window_found (number_of z) 0 0) is
+      ∙ refused (number_of refusal) (rw (le-leb channel 5 c) (cells_refused cells (number_of refusal) e enough (number_not_zero refusal)))
+      (number_not_zero refusal)
 
-    module _ (z : k ≡ accepted) where
-      passed : strongest_refusal cells channel ≡ first_fault enough
-      passed = rw (le-leb channel 5 c) (cells_passed cells k e enough z)
+  module _ (c : channel ≤ 5) (e : accepted ≡ first_fault (cell_checks cells)) where
+    passed : strongest_refusal cells channel ≡ first_fault enough
+    passed = rw (le-leb channel 5 c) (cells_passed cells accepted e enough refl)
 
-      pub strongest_few : (r : StrongestWindow) → r ≡ window_found few_frames 0 0 → frames_in cells < 8 → r ≡ strongest_of cells channel
-      strongest_few r q h = refused few_frames r (passed ∙ rw (lt-leb 8 (frames_in cells) h)) (λ z. omega arith) q
+    pub strongest_few : frames_in cells < 8 → window_found few_frames 0 0 ≡ strongest_of cells channel
+    strongest_few h = refused few_frames (passed ∙ rw (lt-leb 8 (frames_in cells) h)) (λ z. omega arith)
 
-      pub channel_right : 8 ≤ frames_in cells → ChannelRight cells channel
-      channel_right h =
-          let S = cells_sound cells k e z in
+    module _ (h : 8 ≤ frames_in cells) where
+      pub channel_right : ChannelRight cells channel
+      channel_right =
+          let S = cells_sound cells accepted e refl in
           record {
             whole = S.whole;
             enough = h;
@@ -272,8 +197,6 @@ module _ (cells : List ℕ) (channel : ℕ) where
             codes = λ f. ranges_code cells S.ranges f channel (omega arith);
           }
 
-      pub strongest_accepted : (r : StrongestWindow) → 8 ≤ frames_in cells → r ≡ strongest_in cells channel → r ≡ strongest_of cells channel
+      pub strongest_accepted : (w : Window) → found w ≡ strongest_in cells channel → found w ≡ strongest_of cells channel
       unfolding strongest_of
-      strongest_accepted r h q = let p : strongest_refusal cells channel ≡ accepted = passed ∙ rw (le-leb 8 (frames_in cells) h) in q ∙ sym (rw p)
-
-pub ruleset strongest_cases = (strongest_channel, strongest_cells, strongest_few, channel_right, strongest_accepted)
+      strongest_accepted w q = let p : strongest_refusal cells channel ≡ accepted = passed ∙ rw (le-leb 8 (frames_in cells) h) in q ∙ sym (rw p)

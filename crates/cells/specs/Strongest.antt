@@ -1,7 +1,10 @@
 -- Document 01, "The capture": the strongest window of a channel. Rests on the refusals and on frames.
 use Rattle.std.specs.Prelude.{ℕ, zero, suc, ◌+◌, ◌-◌, ◌*◌, cond, List, [], ◌∷◌, ◌++◌, get_or, take, drop, ltb, leb, eqb, ℤ, nat_abs}
+use Rattle.std.specs.Prelude.{Result, Ok, Err}
 use Rattle.cells.specs.declared.StrongestWindow.{StrongestWindow}
-use Rattle.refusals.specs.Refusals.{Check, ◌or_else◌, first_fault, accepted, wrong_shape, few_frames}
+use Rattle.cells.specs.declared.Window.{Window}
+use Rattle.refusals.specs.declared.Refusal.{Refusal}
+use Rattle.refusals.specs.Refusals.{Check, ◌or_else◌, first_fault, accepted, wrong_shape, few_frames, number_of}
 use Rattle.frames.specs.Codes.{sample_of}
 use Rattle.frames.specs.Cells.{frames_in, cell_checks}
 
@@ -27,6 +30,10 @@ window_sum codes f = squares (take 8 (drop f codes))
 
 abbrev pub window_found : ℕ → ℕ → ℕ → StrongestWindow
 window_found refusal sum frame = record { refusal = refusal; sum = sum; frame = frame }
+
+-- A window as it is answered where the call is accepted.
+abbrev pub found : Window → StrongestWindow
+found window = window_found accepted window.sum window.frame
 
 -- The window at frame f in place of the strongest before it, if its sum is larger: of equal ones the first stays.
 abbrev pub stronger_of : StrongestWindow → ℕ → ℕ → StrongestWindow
@@ -54,3 +61,8 @@ unfoldable pub strongest_of : List ℕ → ℕ → StrongestWindow
 strongest_of cells channel =
     cond (eqb (strongest_refusal cells channel) accepted) (strongest_in cells channel)
     (window_found (strongest_refusal cells channel) 0 0)
+
+-- The refusal's number and the window that a call answers: 0 where it is accepted, "sum and frame 0" where it is refused.
+abbrev pub strongest_answer : Result Window Refusal → StrongestWindow
+strongest_answer (Ok window) = found window
+strongest_answer (Err refusal) = window_found (number_of refusal) 0 0

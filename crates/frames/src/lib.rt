@@ -6,7 +6,8 @@ pub mod bits; // bits.rt: the bits of a byte
 pub mod cells; // cells.rt: a frame as seven cells, and the checks of cells
 pub mod codes; // codes.rt: code and sample
 
-// A code is below this.
+// A code is below this. A code is a plain number and no type of its own: cells, captures and C hold plain numbers, and
+// a type would be made and taken apart at each.
 pub const CODE_LIMIT: u16 = 1024;
 
 // The code of a sample of 0, and the code before a capture's first frame.

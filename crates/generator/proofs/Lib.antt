@@ -1,6 +1,7 @@
 pub mod Numbers
 pub mod Frames
 pub mod Copies
+pub mod Parts
 pub mod Making
 pub mod Outcome
 pub mod Laws

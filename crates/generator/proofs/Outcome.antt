@@ -1,9 +1,9 @@
 -- The outcome of a call of `generate`, case by case as the code returns. Rests on the laws of `Put` and on the outcomes of refusals.
-use Rattle.std.proofs.Common.{◌≡◌, ℕ, ◌+◌, ◌*◌, ◌<◌, ◌≤◌, Bool, true, false, List, length, get_or, take, drop, replicate, sym, refl, ap, ◌∙◌, arith, get_or-take, take_at, le-leb}
+use Rattle.std.proofs.Common.{◌≡◌, ℕ, zero, suc, ◌+◌, ◌*◌, ◌<◌, ◌≤◌, Bool, true, false, ◌&&◌, List, ◌++◌, length, take, sym, refl, ap, ◌∙◌, arith, take_all, take_at, le-leb}
+use Rattle.std.specs.List.{list_all}
+use Rattle.std.proofs.lemmas.List.Folds.{list_all_more}
 use borrow.Author.Tests.{lt-leb}
-use lib.ListN.{length-replicate}
-use lib.Seq.{sets, sets-eq}
-use Rattle.lists.proofs.Each.{every_same}
+use Rattle.lists.specs.Each.{every}
 use Rattle.lists.specs.Put.{Put}
 use Rattle.lists.proofs.Put.{put_front}
 use Rattle.refusals.specs.Refusals.{first_fault, accepted, out_of_range, does_not_fit, all_even}
@@ -12,27 +12,31 @@ use Rattle.refusals.proofs.Outcomes.{answered, answered_not}
 use Rattle.frames.specs.Cells.{most_frames}
 use Rattle.generator.specs.Generator.{frames_made, is_even, even_at, all_are_even, generate_checks, generate_of}
 
--- The numbers that are kept begin with those given.
-given_first : (given numbers : List ℕ) → length given ≡ 55 → numbers ≡ sets (replicate 457 0) 0 given → take 55 numbers ≡ given
-given_first given numbers full e =
-    rw (e, sets-eq given (replicate 457 0) 0 (omega (arith, length-replicate {A = ℕ} 457 0)))
-    (take_at given (drop (0 + length given) (replicate 457 0)) 55 full)
+-- The row begins with the numbers given.
+pub row_first : (given front rest : List ℕ) → length given ≡ 55 → front ≡ given → take 55 (front ++ rest) ≡ given
+row_first given front rest full e = rw e (take_at given rest 55 full)
 
--- So they are all even just where those given are.
-even_first : (given numbers : List ℕ) → length given ≡ 55 → numbers ≡ sets (replicate 457 0) 0 given → all_are_even numbers ≡ all_are_even given
+all_at : (numbers : List ℕ) (n : ℕ) → n ≤ length numbers → list_all is_even (take n numbers) ≡ every n (even_at numbers)
+unfolding every
+all_at numbers zero h = refl
+all_at numbers (suc n) h =
+    let e : n + 1 ≡ suc n = omega arith in
+    let more : list_all is_even (take (n + 1) numbers) ≡ (list_all is_even (take n numbers) && even_at numbers n)
+    = list_all_more is_even numbers n 0 (omega arith) in
+    (rw e at more) ∙ ap (λ (t : Bool). t && even_at numbers n) (all_at numbers n (omega arith))
+
+all_given : (given : List ℕ) → length given ≡ 55 → list_all is_even given ≡ all_are_even given
 unfolding all_are_even
-even_first given numbers full e =
-    every_same 55 (even_at numbers) (even_at given)
-    (λ k h. ap is_even (sym (get_or-take 55 numbers k 0 h) ∙ ap (λ (l : List ℕ). get_or l k 0) (given_first given numbers full e)))
+all_given given full = ap (list_all is_even) (sym (take_all 55 given (omega arith))) ∙ all_at given 55 (omega arith)
 
 module _ (given : List ℕ) (n : ℕ) (cells : List ℕ) where
   abbrev first : ℕ
   first = first_fault (generate_checks given n cells)
 
-  module _ (full : length given ≡ 55) (numbers : List ℕ) (g : numbers ≡ sets (replicate 457 0) 0 given) (even : Bool)
-      (asked : even ≡ all_are_even numbers) where
+  module _ (full : length given ≡ 55) (numbers : List ℕ) (g : take 55 numbers ≡ given) (even : Bool)
+      (asked : even ≡ list_all is_even (take 55 numbers)) where
     e : even ≡ all_are_even given
-    e = asked ∙ even_first given numbers full g
+    e = asked ∙ ap (list_all is_even) g ∙ all_given given full
 
     refused : (k r m : ℕ) → first ≡ k → 0 < k → r ≡ k → m ≡ 0 → Answered (generate_of given n cells) r m cells
     unfolding generate_of
@@ -61,6 +65,6 @@ module _ (given : List ℕ) (n : ℕ) (cells : List ℕ) where
             (rw (some_odd, le-leb n most_frames few, le-leb (7 * n) (length cells) h))
             refl
             refl
-            (put_front (rw (given_first given numbers full g) at P)).0
+            (put_front (rw g at P)).0
 
-pub ruleset generate_cases = (even_refused, many_refused, room_refused, generate_done)
+pub ruleset generate_cases = (row_first, even_refused, many_refused, room_refused, generate_done)

@@ -14,8 +14,7 @@ use Rattle.relay.specs.declared.ChannelLevels.{ChannelLevels}
 use Rattle.relay.specs.declared.Levels.{Levels}
 use Rattle.relay.specs.declared.Settings.{Settings}
 use Rattle.relay.specs.declared.Relay.{Relay}
-use Rattle.relay.specs.declared.ResetAnswer.{ResetAnswer}
-use Rattle.relay.specs.declared.ChangeAnswer.{ChangeAnswer}
+use Rattle.relay.specs.declared.RelayAnswer.{RelayAnswer}
 use Rattle.relay.specs.Relay.{channel_at, fresh_of, frame_of, reset_of, change_of}
 use Rattle.relay.proofs.Examples.{bench, equal_levels}
 use Rattle.history.specs.Calls.{Call, frame, change, reset_refused_by, change_refused_by, accepted_frames, Implementation}
@@ -39,8 +38,8 @@ changing f =
       frame = frame_of;
       reset = reset_of;
       change = λ r new.
-          let a : ChangeAnswer = change_of r new in
-          cond {A = ChangeAnswer} (eqb (change_refused_by new) 0) (record { relay = f r new a.relay; refusal = a.refusal }) a;
+          let a : RelayAnswer = change_of r new in
+          cond {A = RelayAnswer} (eqb (change_refused_by new) 0) (record { relay = f r new a.relay; refusal = a.refusal }) a;
     }
 
 -- each channel made anew from the channel before, the channel after, and its old and new levels
@@ -107,9 +106,9 @@ reminded = changing (λ was new r. with_memory true r)
 -- goes back to the levels of the works, all of them 1, at an accepted reset
 abbrev restoring : Implementation
 restoring = resetting (λ r mask.
-    let a : ResetAnswer = reset_of r mask in
+    let a : RelayAnswer = reset_of r mask in
     let s : Relay = a.relay in
-    cond {A = ResetAnswer} (eqb (reset_refused_by mask) 0)
+    cond {A = RelayAnswer} (eqb (reset_refused_by mask) 0)
     (record {
       relay = record { channels = s.channels; age = s.age; slot = s.slot; device_on = s.device_on; settings = ones };
       refusal = a.refusal;

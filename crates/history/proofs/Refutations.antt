@@ -16,9 +16,8 @@ use Rattle.frames.specs.Bits.{bit_of}
 use Rattle.relay.specs.declared.Channel.{Channel}
 use Rattle.relay.specs.declared.Settings.{Settings}
 use Rattle.relay.specs.declared.Relay.{Relay}
-use Rattle.relay.specs.declared.FreshAnswer.{FreshAnswer}
+use Rattle.relay.specs.declared.RelayAnswer.{RelayAnswer}
 use Rattle.relay.specs.declared.FrameAnswer.{FrameAnswer}
-use Rattle.relay.specs.declared.ResetAnswer.{ResetAnswer}
 use Rattle.relay.specs.Channel.{no_channel}
 use Rattle.relay.specs.Relay.{channel_at, zero_relay, fresh_of, age_found, amplitude_in, frame_of, reset_of, change_of}
 use Rattle.relay.proofs.Examples.{equal_levels}
@@ -196,10 +195,10 @@ framing f =
       change = change_of;
     }
 
-abbrev pub with_fresh : (Settings → FreshAnswer) → Implementation
+abbrev pub with_fresh : (Settings → RelayAnswer) → Implementation
 with_fresh f = record { fresh = f; frame = frame_of; reset = reset_of; change = change_of }
 
-abbrev pub resetting : (Relay → ℕ → ResetAnswer) → Implementation
+abbrev pub resetting : (Relay → ℕ → RelayAnswer) → Implementation
 resetting f = record { fresh = fresh_of; frame = frame_of; reset = f; change = change_of }
 
 abbrev pub with_age : ℕ → Relay → Relay
@@ -263,15 +262,15 @@ young r = with_age 0 r
 
 abbrev restarted : Implementation
 restarted = resetting (λ r mask.
-    let a : ResetAnswer = reset_of r mask in
+    let a : RelayAnswer = reset_of r mask in
     cond (eqb (reset_refused_by mask) 0) (record { relay = young a.relay; refusal = a.refusal }) a)
 
 -- a reset that names channel 5 is refused
 abbrev deaf : Implementation
-deaf = resetting (λ r mask. cond {A = ResetAnswer} (bit_of mask 5) (record { relay = r; refusal = 5 }) (reset_of r mask))
+deaf = resetting (λ r mask. cond {A = RelayAnswer} (bit_of mask 5) (record { relay = r; refusal = 5 }) (reset_of r mask))
 
 -- a fresh relay for no settings, and one for no drop level above 8,192
-abbrev pub none : FreshAnswer
+abbrev pub none : RelayAnswer
 none = record { relay = zero_relay; refusal = 1 }
 
 abbrev refusing : Implementation

@@ -24,7 +24,7 @@ use Rattle.relay.specs.declared.ChannelLevels.{ChannelLevels}
 use Rattle.relay.specs.declared.Settings.{Settings}
 use Rattle.relay.specs.declared.Relay.{Relay}
 use Rattle.relay.specs.declared.FrameAnswer.{FrameAnswer}
-use Rattle.relay.specs.declared.ResetAnswer.{ResetAnswer}
+use Rattle.relay.specs.declared.RelayAnswer.{RelayAnswer}
 use Rattle.relay.specs.Settings.{Kind}
 use Rattle.relay.specs.Channel.{no_channel, fresh_channel, cleared_of, run_after, next_run, next_latch, latch_on}
 use Rattle.relay.specs.Relay.{channel_at, unused_relay, fresh_relay, fresh_of, age_found, counted, age_after, slot_after, amplitude_in}
@@ -76,7 +76,7 @@ module _ (make : Making) where
         fresh = fresh_of;
         frame = λ r codes enable. cond {A = FrameAnswer} (eqb (frame_refused_by codes enable) 0) (framed r codes enable)
             (record { relay = r; refusal = frame_refused_by codes enable; amplitudes = replicate 6 0; output = 0 });
-        reset = λ r mask. cond {A = ResetAnswer} (eqb (reset_refused_by mask) 0) (accepted_reset r mask)
+        reset = λ r mask. cond {A = RelayAnswer} (eqb (reset_refused_by mask) 0) (accepted_reset r mask)
             (record { relay = r; refusal = reset_refused_by mask });
         change = change_of;
       }

@@ -13,8 +13,7 @@ use Rattle.relay.specs.declared.Channel.{Channel}
 use Rattle.relay.specs.declared.Lengths.{Lengths}
 use Rattle.relay.specs.declared.Relay.{Relay}
 use Rattle.relay.specs.declared.FrameAnswer.{FrameAnswer}
-use Rattle.relay.specs.declared.ResetAnswer.{ResetAnswer}
-use Rattle.relay.specs.declared.ChangeAnswer.{ChangeAnswer}
+use Rattle.relay.specs.declared.RelayAnswer.{RelayAnswer}
 use Rattle.relay.specs.Relay.{channel_at, fresh_of, frame_of, reset_of, change_of}
 use Rattle.relay.proofs.Examples.{bench}
 use Rattle.history.specs.Calls.{Call, frame, change, Implementation, frame_refused_by, accepted_frames}
@@ -49,10 +48,10 @@ through f =
           let a : FrameAnswer = frame_of (with_lengths (f r.settings.lengths) r) codes enable in
           handing (with_lengths r.settings.lengths a.relay) a;
       reset = λ r mask.
-          let a : ResetAnswer = reset_of (with_lengths (f r.settings.lengths) r) mask in
+          let a : RelayAnswer = reset_of (with_lengths (f r.settings.lengths) r) mask in
           record { relay = with_lengths r.settings.lengths a.relay; refusal = a.refusal };
       change = λ r new.
-          let a : ChangeAnswer = change_of (with_lengths (f r.settings.lengths) r) new in
+          let a : RelayAnswer = change_of (with_lengths (f r.settings.lengths) r) new in
           record { relay = with_lengths r.settings.lengths a.relay; refusal = a.refusal };
     }
 
@@ -73,7 +72,7 @@ restored =
       frame = frame_of;
       reset = reset_of;
       change = λ r new.
-          let a : ChangeAnswer = change_of r new in
+          let a : RelayAnswer = change_of r new in
           record { relay = with_lengths bench a.relay; refusal = a.refusal };
     }
 

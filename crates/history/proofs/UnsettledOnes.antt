@@ -10,7 +10,7 @@ use lib.ListN.{replicate}
 use Rattle.frames.specs.Bits.{bit_of}
 use Rattle.relay.specs.declared.Relay.{Relay}
 use Rattle.relay.specs.declared.FrameAnswer.{FrameAnswer}
-use Rattle.relay.specs.declared.ResetAnswer.{ResetAnswer}
+use Rattle.relay.specs.declared.RelayAnswer.{RelayAnswer}
 use Rattle.relay.specs.Relay.{fresh_of, frame_of, reset_of, change_of}
 use Rattle.history.specs.Calls.{Call, frame, frame_refused_by, reset_refused_by, accepted_frames, device_bit, Implementation}
 use Rattle.history.specs.Settling.{rise_in}
@@ -54,7 +54,7 @@ late = framing (λ r codes enable a.
 -- remembers on after an accepted reset
 abbrev forgetful : Implementation
 forgetful = resetting (λ r mask.
-    let a : ResetAnswer = reset_of r mask in
+    let a : RelayAnswer = reset_of r mask in
     cond (eqb (reset_refused_by mask) 0) (record { relay = with_memory true a.relay; refusal = a.refusal }) a)
 
 -- remembers bit 6 of a refused frame

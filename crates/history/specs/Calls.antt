@@ -8,10 +8,8 @@ use Rattle.frames.specs.Bits.{bit_of}
 use Rattle.relay.specs.declared.Levels.{Levels}
 use Rattle.relay.specs.declared.Settings.{Settings}
 use Rattle.relay.specs.declared.Relay.{Relay}
-use Rattle.relay.specs.declared.FreshAnswer.{FreshAnswer}
+use Rattle.relay.specs.declared.RelayAnswer.{RelayAnswer}
 use Rattle.relay.specs.declared.FrameAnswer.{FrameAnswer}
-use Rattle.relay.specs.declared.ResetAnswer.{ResetAnswer}
-use Rattle.relay.specs.declared.ChangeAnswer.{ChangeAnswer}
 use Rattle.relay.specs.Relay.{fresh_of, frame_of, reset_of, change_of}
 
 -- "The frame handed in is six codes, one for each channel in order"
@@ -91,10 +89,10 @@ in_force made (change new ∷ calls) = in_force (cond (is_accepted (change new))
 -- What answers the four calls. Demand 3 is stated for any implementation, so that a wrong one can be shown not to meet
 -- it.
 pub record Implementation : Type 0 where
-  pub fresh : Settings → FreshAnswer
+  pub fresh : Settings → RelayAnswer
   pub frame : Relay → List ℕ → ℕ → FrameAnswer
-  pub reset : Relay → ℕ → ResetAnswer
-  pub change : Relay → Levels → ChangeAnswer
+  pub reset : Relay → ℕ → RelayAnswer
+  pub change : Relay → Levels → RelayAnswer
 
 -- ours: the very functions that the contracts of `fresh`, `frame`, `reset` and `change` name
 abbrev pub the_relay : Implementation

@@ -13,8 +13,7 @@ use Rattle.relay.specs.declared.Lengths.{Lengths}
 use Rattle.relay.specs.declared.Settings.{Settings}
 use Rattle.relay.specs.declared.Relay.{Relay}
 use Rattle.relay.specs.declared.FrameAnswer.{FrameAnswer}
-use Rattle.relay.specs.declared.ResetAnswer.{ResetAnswer}
-use Rattle.relay.specs.declared.ChangeAnswer.{ChangeAnswer}
+use Rattle.relay.specs.declared.RelayAnswer.{RelayAnswer}
 use Rattle.relay.specs.Settings.{Kind}
 use Rattle.relay.specs.Sound.{sound_of}
 use Rattle.relay.specs.Relay.{channel_at}
@@ -168,12 +167,12 @@ module _ (d : Implementation) (settings : Settings) where
       × (¬ (refusal ≡ 0)
       → answer ≡ record { relay = relay_after past; refusal = refusal; amplitudes = replicate 6 0; output = 0 })
   CallAnswered past (reset mask) =
-      let answer : ResetAnswer = d.reset (relay_after past) mask in
+      let answer : RelayAnswer = d.reset (relay_after past) mask in
       let refusal : ℕ = refusal_of (reset mask) in
       (refusal ≡ 0 → answer.refusal ≡ 0)
       × (¬ (refusal ≡ 0) → answer ≡ record { relay = relay_after past; refusal = refusal })
   CallAnswered past (change new) =
-      let answer : ChangeAnswer = d.change (relay_after past) new in
+      let answer : RelayAnswer = d.change (relay_after past) new in
       let refusal : ℕ = refusal_of (change new) in
       (refusal ≡ 0 → answer.refusal ≡ 0)
       × (¬ (refusal ≡ 0) → answer ≡ record { relay = relay_after past; refusal = refusal })

@@ -1,20 +1,20 @@
 -- Signed locals of the machine. A signed local holds bits, and an operation works on what the machine reads back from them, `to_z w bits`.
 -- `Holds w n z k` says that the bits n read back as z and that the size of z is at most k: one lemma for each way to come by a value, and for each
 -- operation one that gives the result's from the operands' (`sum`) and one that answers its need (`sum_fits`). Rests on Size.
-use Prim.Native.Nat.{ℕ, zero, suc, zero-le, ◌+◌, ◌*◌, ◌/◌, ◌≤◌, ◌<◌, ◌^◌}
-use native.Mathlib.Nat.{le_refl, lt_of_le_of_lt, mul-le-mul, le_trans}
+use Prim.Native.Nat.{ℕ, zero, suc, zero-le, ◌+◌, ◌*◌, ◌≤◌, ◌<◌, ◌^◌}
+use native.Mathlib.Nat.{le_refl, lt_of_le_of_lt, mul-le-mul}
 use native.Mathlib.Omega.{arith}
-use mathlib.Core.Path.{◌≡◌, sym, ◌∙◌, subst, subst⁻¹}
+use mathlib.Core.Path.{◌≡◌, ◌∙◌, subst⁻¹}
 use mathlib.Core.Bool.{Bool, true, ◌&&◌}
 use mathlib.Core.List.{List, [], ◌∷◌}
-use lib.Dec.{T, ltb, leb, ltb→lt, leb→le}
+use lib.Dec.{T, leb, leb→le}
 use lib.ListN.{get_or}
-use lib.IntN.{ℤ, pos, negsuc, nat_abs, ◌+ℤ◌, ◌-ℤ◌, ◌*ℤ◌}
-use lib.Signed.{mag, shr_z, le_z, non_neg}
+use lib.IntN.{ℤ, pos, negsuc, nat_abs, ◌+ℤ◌, ◌*ℤ◌}
+use lib.Signed.{mag, non_neg}
 use mir.Syntax.{Width}
 use mir.Val.{SFits, Fits, bits, hbits, to_z, of_z}
-use mir.Facts.{to_z-of_z, to_z_pos, and_yes}
-use Rattle.integers.proofs.Size.{abs_add, abs_sub, abs_mul, abs_shr, abs_shr_pow}
+use mir.Facts.{to_z-of_z, and_yes}
+use Rattle.integers.proofs.Size.{abs_add, abs_mul}
 
 mag_abs : (z : ℤ) → mag z ≤ nat_abs z
 mag_abs (pos a) = le_refl a
@@ -36,23 +36,6 @@ held p q = record { reads = to_z-of_z (sfits_abs (lt_of_le_of_lt p q)); size = p
 -- a callee's result a, of which its contract says that it is b
 pub held_as : {w : Width} {a b : ℤ} {k : ℕ} → a ≡ b → nat_abs b ≤ k → k < 2 ^ hbits w → Holds w (of_z w a) b k
 held_as {w} {b} {k} e p q = subst⁻¹ (λ (z : ℤ). Holds w (of_z w z) b k) e (held p q)
-
--- a literal
-pub held_lit : {w : Width} {n : ℕ} → T (ltb n (2 ^ hbits w)) → Holds w n (pos n) n
-held_lit {w} {n} t = record { reads = to_z_pos w (ltb→lt n (2 ^ hbits w) t); size = le_refl n }
-
--- an element that was read: the range that its `.given` hands over, and its size
-pub read_at : {w : Width} {z : ℤ} {k : ℕ} → mag z < 2 ^ hbits w → nat_abs z ≤ k → Holds w (of_z w z) z k
-read_at p q = record { reads = to_z-of_z (record { sfits = p }); size = q }
-
--- the same bits, with the number and the size said in another way
-pub same : {w : Width} {n : ℕ} {a b : ℤ} {j k : ℕ} → Holds w n a j → a ≡ b → j ≤ k → Holds w n b k
-same {b} {k} x e p = record { reads = x.reads ∙ e; size = subst (λ (z : ℤ). nat_abs z ≤ k) e (le_trans x.size p) }
-
--- ---- a way out: what a callee's `requires` asks of an argument
-
-pub bits_size : {w : Width} {n : ℕ} {z : ℤ} {k : ℕ} → Holds w n z k → nat_abs (to_z w n) ≤ k
-bits_size x = rw x.reads x.size
 
 -- ---- operations
 
@@ -77,18 +60,6 @@ module _ {w : Width} {m n : ℕ} {a b : ℤ} {j k : ℕ} (x : Holds w m a j) (y 
   pub sum : j + k < 2 ^ hbits w → Holds w (of_z w (to_z w m +ℤ to_z w n)) (a +ℤ b) (j + k)
   sum = result (to_z w m +ℤ to_z w n) sum_is sum_size
 
-  diff_is : to_z w m -ℤ to_z w n ≡ a -ℤ b
-  diff_is = λ i. x.reads i -ℤ y.reads i
-
-  diff_size : nat_abs (a -ℤ b) ≤ j + k
-  diff_size = omega (arith, abs_sub a b)
-
-  pub diff_fits : j + k < 2 ^ hbits w → SFits w (to_z w m -ℤ to_z w n)
-  diff_fits = result_fits (to_z w m -ℤ to_z w n) diff_is diff_size
-
-  pub diff : j + k < 2 ^ hbits w → Holds w (of_z w (to_z w m -ℤ to_z w n)) (a -ℤ b) (j + k)
-  diff = result (to_z w m -ℤ to_z w n) diff_is diff_size
-
   prod_is : to_z w m *ℤ to_z w n ≡ a *ℤ b
   prod_is = λ i. x.reads i *ℤ y.reads i
 
@@ -101,40 +72,8 @@ module _ {w : Width} {m n : ℕ} {a b : ℤ} {j k : ℕ} (x : Holds w m a j) (y 
   pub prod : j * k < 2 ^ hbits w → Holds w (of_z w (to_z w m *ℤ to_z w n)) (a *ℤ b) (j * k)
   prod = result (to_z w m *ℤ to_z w n) prod_is prod_size
 
-  -- a test, as a test of the numbers
-  pub le_test : {t : Bool} → le_z (to_z w m) (to_z w n) ≡ t → le_z a b ≡ t
-  le_test e = (λ i. le_z (sym x.reads i) (sym y.reads i)) ∙ e
-
--- a product by a literal
-module _ {w : Width} {m : ℕ} {a : ℤ} {j : ℕ} (x : Holds w m a j) (n : ℕ) where
-  times_is : to_z w m *ℤ pos n ≡ a *ℤ pos n
-  times_is = λ i. x.reads i *ℤ pos n
-
-  times_size : nat_abs (a *ℤ pos n) ≤ j * n
-  times_size = rw (abs_mul a (pos n)) (mul-le-mul x.size (le_refl n))
-
-  pub times_fits : j * n < 2 ^ hbits w → SFits w (to_z w m *ℤ pos n)
-  times_fits = result_fits (to_z w m *ℤ pos n) times_is times_size
-
-  pub times : j * n < 2 ^ hbits w → Holds w (of_z w (to_z w m *ℤ pos n)) (a *ℤ pos n) (j * n)
-  times = result (to_z w m *ℤ pos n) times_is times_size
-
--- a shift to the right by d = 2 ^ k, and the same with the smaller size
-module _ {w : Width} {m : ℕ} {a : ℤ} {j : ℕ} (x : Holds w m a j) where
-  pub shifted : (d : ℕ) → j < 2 ^ hbits w → Holds w (of_z w (shr_z (to_z w m) d)) (shr_z a d) j
-  shifted d = result (shr_z (to_z w m) d) (λ i. shr_z (x.reads i) d) (omega (arith, abs_shr a d))
-
-  pub shifted_by : (k : ℕ) → j < 2 ^ hbits w → Holds w (of_z w (shr_z (to_z w m) (2 ^ k))) (shr_z a (2 ^ k)) (j / 2 ^ k + 1)
-  shifted_by k f = record { reads = (shifted (2 ^ k) f).reads; size = abs_shr_pow a k j x.size }
-
--- a cast to a signed width, and to an unsigned one
+-- a cast to an unsigned width
 module _ {w w' : Width} {m : ℕ} {a : ℤ} {j : ℕ} (x : Holds w m a j) where
-  pub cast_fits : j < 2 ^ hbits w' → SFits w' (to_z w m)
-  cast_fits = result_fits (to_z w m) x.reads x.size
-
-  pub casted : j < 2 ^ hbits w' → Holds w' (of_z w' (to_z w m)) a j
-  casted = result (to_z w m) x.reads x.size
-
   pub to_unsigned : T (non_neg a) → j < 2 ^ bits w' → T (non_neg (to_z w m)) × Fits w' (nat_abs (to_z w m))
   to_unsigned t f = rw x.reads (t, record { fits = lt_of_le_of_lt x.size f })
 

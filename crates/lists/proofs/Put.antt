@@ -4,8 +4,8 @@ use Prim.Native.Nat.{ℕ, ◌+◌, ◌≤◌, ◌<◌}
 use mathlib.Core.Path.{◌≡◌, refl, sym, ap, subst, ◌∙◌}
 use mathlib.Core.List.{List, [], ◌∷◌, ◌++◌, append_assoc, append-nil}
 use native.Mathlib.Omega.{arith}
-use lib.ListN.{length, take, drop, set, length-append, length-set}
-use lib.Seq.{sets, sets-eq, length-take-le}
+use lib.ListN.{length, drop, set, length-append, length-set}
+use lib.Seq.{sets, sets-eq}
 use native.Mathlib.Nat.{zero-add}
 use Rattle.lists.specs.Put.{Put}
 use Rattle.lists.proofs.Lists.{sets_append}
@@ -30,10 +30,6 @@ put_then {a} {b} {c} {xs} {ys} {at} {i} {j} p q =
 -- the same items in other words
 pub put_reworded : {a b xs ys : List ℕ} {at i : ℕ} → ys ≡ xs → Put a at xs b i → Put a at ys b i
 put_reworded {a} {b} {xs} {ys} {at} {i} e p = subst (λ (l : List ℕ). Put a at l b i) (sym e) p
-
--- what lending the front of the buffer, `&buf[..r]`, asks
-pub put_lends : {old items new : List ℕ} {at r : ℕ} → Put old at items new r → (r ≤ length new) × (r ≡ length (take r new))
-put_lends {new = new} {r = r} p = let h : r ≤ length new = omega arith in (h, sym (length-take-le r new h))
 
 -- put from the front: they stand there, and what is past them is untouched
 pub put_front : {old items new : List ℕ} {next : ℕ} → Put old 0 items new next

@@ -48,5 +48,3 @@ passed_all n p k t h =
     let w = t.within in
     let end : k ≡ n = omega arith in
     sym (rw end at t.passed)
-
-pub ruleset passed_cases = (passed_none, passed_more, failed_at, passed_all)

@@ -22,52 +22,46 @@ const CELLS: usize = 7 * frames::MOST_FRAMES;
 fn number(a: u8, b: u8, c: u8, d: u8) -> u32
     ensures { result ≡ number_of a b c d }
 {
-    a as u32 + ((b as u32) << 8) + ((c as u32) << 16) + ((d as u32) << 24)
+    u32::from_le_bytes([a, b, c, d])
 }
 
-// The numbers of the first 220 bytes.
+// The numbers of the first 220 bytes. The four bytes are named one by one, as `number_of` has them; with
+// `array::from_fn` in place of the loop the proof did not close.
 fn numbers_of(bytes: &[u8; INPUT]) -> [u32; 55]
     ensures { result ≡ numbers_of bytes.now }
 {
-    let mut numbers = [0u32; 55];
-    let mut k: usize = 0;
-    while k < 55 {
+    let mut numbers = [0; 55];
+    for k in 0..55 {
         numbers[k] = number(
             bytes[4 * k],
             bytes[4 * k + 1],
             bytes[4 * k + 2],
             bytes[4 * k + 3],
         );
-        k += 1;
     }
     numbers
 }
 
-fn show_refusal(rt: &impl Print, refusal: u8) -> io::Result<()> {
-    println!(rt; "refused {refusal}")
-}
-
 // Writes the frames as a capture to standard output. Those that were made are never refused here (`made_fits`).
 fn show_capture(rt: &impl Print, cells: &[u16]) -> io::Result<()> {
-    let mut bytes = [0u8; capture::LONGEST];
-    let written = writer::write(cells, &mut bytes);
-    let n = written.count;
-    rt.write_all(&bytes[..n])
+    let mut bytes = [0; capture::LONGEST];
+    match writer::write(cells, &mut bytes) {
+        Ok(n) => rt.write_all(&bytes[..n]),
+        Err(_) => Ok(()),
+    }
 }
 
 fn main(rt: HostRuntime) -> io::Result<()> {
-    let mut bytes = [0u8; INPUT];
-    let input = input::read_all(&mut rt.stdin(), &mut bytes);
-    if input.failed {
+    let mut bytes = [0; INPUT];
+    let Ok(count) = input::read_all(&mut rt.stdin(), &mut bytes) else {
         return Ok(());
-    }
-    if input.count != WANTED {
+    };
+    if count != WANTED {
         return println!(rt; "220 bytes are wanted");
     }
-    let mut cells = [0u16; CELLS];
-    let made = generator::generate(numbers_of(&bytes), frames::MOST_FRAMES, &mut cells);
-    if made.refusal != refusals::ACCEPTED {
-        return show_refusal(&rt, made.refusal);
+    let mut cells = [0; CELLS];
+    match generator::generate(numbers_of(&bytes), frames::MOST_FRAMES, &mut cells) {
+        Ok(_) => show_capture(&rt, &cells),
+        Err(refusal) => println!(rt; "refused {refusal}"),
     }
-    show_capture(&rt, &cells)
 }

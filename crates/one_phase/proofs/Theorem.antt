@@ -19,10 +19,8 @@ use Rattle.relay.specs.declared.Lengths.{Lengths}
 use Rattle.relay.specs.declared.Levels.{Levels}
 use Rattle.relay.specs.declared.Settings.{Settings}
 use Rattle.relay.specs.declared.Relay.{Relay}
-use Rattle.relay.specs.declared.FreshAnswer.{FreshAnswer}
+use Rattle.relay.specs.declared.RelayAnswer.{RelayAnswer}
 use Rattle.relay.specs.declared.FrameAnswer.{FrameAnswer}
-use Rattle.relay.specs.declared.ResetAnswer.{ResetAnswer}
-use Rattle.relay.specs.declared.ChangeAnswer.{ChangeAnswer}
 use Rattle.relay.specs.Settings.{loss, over}
 use Rattle.relay.specs.Channel.{channel_after, latch_on}
 use Rattle.relay.specs.Relay.{fresh_relay, zero_relay, unused_relay, fresh_of, fresh_refusal, counted, next_channel, amplitude_in, output_in}
@@ -81,11 +79,11 @@ frame_answered r codes enable e = by_number (λ (a : FrameAnswer). a.refusal) (f
 
 reset_answered : (r : Relay) (mask : ℕ) → (reset_of r mask).refusal ≡ 0 → reset_of r mask ≡ accepted_reset r mask
 unfolding reset_of refused_reset
-reset_answered r mask e = by_number (λ (a : ResetAnswer). a.refusal) (reset_refusal r mask) _ _ refl e
+reset_answered r mask e = by_number (λ (a : RelayAnswer). a.refusal) (reset_refusal r mask) _ _ refl e
 
 change_answered : (r : Relay) (new : Levels) → (change_of r new).refusal ≡ 0 → change_of r new ≡ accepted_change r new
 unfolding change_of refused_change
-change_answered r new e = by_number (λ (a : ChangeAnswer). a.refusal) (change_refusal r new) _ _ refl e
+change_answered r new e = by_number (λ (a : RelayAnswer). a.refusal) (change_refusal r new) _ _ refl e
 
 -- ---- one call, then every list
 
@@ -123,7 +121,7 @@ module _ (c : ℕ) (h : c < 6) where
   shown_told (reset mask ∷ calls) r e =
       let taken : reset_of r mask ≡ accepted_reset r mask = reset_answered r mask (ap first e) in
       let next : Relay = (accepted_reset r mask).relay in
-      let rest : EachAccepted the_relay next calls = subst (λ (a : ResetAnswer). EachAccepted the_relay a.relay calls) taken (ap others e) in
+      let rest : EachAccepted the_relay next calls = subst (λ (a : RelayAnswer). EachAccepted the_relay a.relay calls) taken (ap others e) in
       rw taken (shown_told calls next rest ∙ ap (λ (p : Phase). told r.settings.lengths p (left c calls)) (reset_phase r c h mask)
       ∙ by (bit_of mask c))
     where
@@ -134,7 +132,7 @@ module _ (c : ℕ) (h : c < 6) where
   shown_told (change new ∷ calls) r e =
       let taken : change_of r new ≡ accepted_change r new = change_answered r new (ap first e) in
       let next : Relay = (accepted_change r new).relay in
-      let rest : EachAccepted the_relay next calls = subst (λ (a : ChangeAnswer). EachAccepted the_relay a.relay calls) taken (ap others e) in
+      let rest : EachAccepted the_relay next calls = subst (λ (a : RelayAnswer). EachAccepted the_relay a.relay calls) taken (ap others e) in
       rw taken (shown_told calls next rest ∙ ap (λ (p : Phase). told r.settings.lengths p (left c calls)) (change_phase r c h new))
 
   -- ---- two relays, whatever they are, that are alike in the clock, in the channel and its own levels, and in the lengths
@@ -159,7 +157,7 @@ unfolding fresh_of
 made s = by (eqb (fresh_refusal s) 0)
   where
     by : (b : Bool)
-        → (let a : FreshAnswer = cond b (record { relay = fresh_relay s; refusal = 0 }) (record { relay = zero_relay; refusal = fresh_refusal s }) in
+        → (let a : RelayAnswer = cond b (record { relay = fresh_relay s; refusal = 0 }) (record { relay = zero_relay; refusal = fresh_refusal s }) in
         (a.relay ≡ fresh_relay s) ⊎ (a.relay ≡ zero_relay))
     by true = inl refl
     by false = inr refl
@@ -183,9 +181,9 @@ zero_accepts [] e = refl
 zero_accepts (frame codes enable ∷ calls) e =
     absurd (omega (arith, ap first e, ap (λ (a : FrameAnswer). a.refusal) (frame_unsound zero_relay codes.list enable zero_unsound)))
 zero_accepts (reset mask ∷ calls) e =
-    absurd (omega (arith, ap first e, ap (λ (a : ResetAnswer). a.refusal) (reset_unsound zero_relay mask zero_unsound)))
+    absurd (omega (arith, ap first e, ap (λ (a : RelayAnswer). a.refusal) (reset_unsound zero_relay mask zero_unsound)))
 zero_accepts (change new ∷ calls) e =
-    absurd (omega (arith, ap first e, ap (λ (a : ChangeAnswer). a.refusal) (change_unsound zero_relay new zero_unsound)))
+    absurd (omega (arith, ap first e, ap (λ (a : RelayAnswer). a.refusal) (change_unsound zero_relay new zero_unsound)))
 
 -- where nothing is left there is no frame
 none_shown : (d : Implementation) (c : ℕ) (calls : List Call) (r : Relay) → left c calls ≡ [] → shown d c r calls ≡ []

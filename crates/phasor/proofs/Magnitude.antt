@@ -12,6 +12,7 @@ use lib.Dec.{T, leb, lit≤}
 use lib.ListN.{get_or}
 use lib.IntN.{pos, nat_abs}
 use lib.Signed.{non_neg, pos-nat_abs}
+use Rattle.std.proofs.lemmas.Nat.{pow_pos}
 use Rattle.integers.proofs.Squares.{sq_cancel, sq_mono}
 use Rattle.phasor.specs.declared.Point.{Point}
 use Rattle.lists.specs.Each.{every}
@@ -19,7 +20,7 @@ use Rattle.phasor.specs.Cordic.{steps, end_of, scaled_of}
 use Rattle.phasor.specs.Internal.{StepsFit}
 use Rattle.lists.proofs.Each.{every_at, and_left, and_right}
 use Rattle.phasor.proofs.Lengths.{Step, up, down, linear}
-use Rattle.phasor.proofs.Trace.{xs, ys, trace, not_negative, pow_pos}
+use Rattle.phasor.proofs.Trace.{xs, ys, trace, not_negative}
 
 -- ---- induction up and down a range
 

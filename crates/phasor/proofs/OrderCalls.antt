@@ -7,13 +7,15 @@ use mathlib.Core.List.{List, [], ◌∷◌, ◌++◌, map}
 use lib.ListN.{replicate, set}
 use lib.IntN.{ℤ, pos, neg_ℤ}
 use lib.Signed.{le_z_yes, lt_z_yes}
+use Rattle.std.specs.Prelude.{Ok, Err}
+use Rattle.refusals.specs.declared.Refusal.TheVariants.{BadEstimate}
 use Rattle.phasor.specs.declared.Window.{Window}
 use Rattle.phasor.specs.declared.EstimateAnswer.{EstimateAnswer}
 use Rattle.lists.specs.Each.{table}
 use Rattle.phasor.specs.Fourier.{re, im}
 use Rattle.phasor.specs.Cordic.{start_of, last_x, amplitude_of, most_amplitude}
 use Rattle.phasor.specs.Exact.{both, larger_r, larger_q, turned, even, odd, exact_p, exact_q, AtLeast, AtMost, Below, Within}
-use Rattle.phasor.specs.Estimate.{estimate_of}
+use Rattle.phasor.specs.Estimate.{estimate_of, estimate_answer_of}
 use Rattle.phasor.specs.Lanes.{current_window, amplitudes_of, seconds_of}
 use Rattle.phasor.proofs.Computed.{computed}
 use Rattle.phasor.proofs.Figures.{zeros, in_slot0}
@@ -241,6 +243,16 @@ estimates =
       loud = refl;
       both_wrong = refl;
     }
+
+-- ---- what C is answered
+
+pub record AnswerCalls : Type 0 where
+  -- the amplitude, and of a refusal its number and no amplitude
+  pub taken : map (λ m. estimate_answer_of (Ok m)) (0 ∷ 3240 ∷ 11573 ∷ []) ≡ map (answer 0) (0 ∷ 3240 ∷ 11573 ∷ [])
+  pub refused : estimate_answer_of (Err BadEstimate) ≡ answer 19 0
+
+pub answer_calls : AnswerCalls
+answer_calls = record { taken = refl; refused = refl }
 
 -- ---- the currents' second harmonic
 

@@ -1,18 +1,19 @@
 -- The samples of a window: each of a sound window's is a code less 512, and they stay sound where a sound one is stored.
 -- Rests on the laws of `every`.
-use Prim.Native.Nat.{ℕ, zero, suc, ◌+◌, ◌-◌, ◌<◌, ◌≤◌, ◌^◌}
+use Prim.Native.Nat.{ℕ, ◌+◌, ◌-◌, ◌<◌, ◌≤◌, ◌^◌}
 use mathlib.Core.Path.{◌≡◌}
 use mathlib.Core.Bool.{true}
-use mathlib.Core.List.{List, [], ◌∷◌}
+use mathlib.Core.List.{List}
 use native.Mathlib.Omega.{arith}
 use borrow.Author.Tests.{leb-true}
 use lib.Dec.{leb}
-use lib.ListN.{get_or, set}
+use lib.ListN.{set}
 use lib.IntN.{ℤ, pos, negsuc, nat_abs}
 use lib.Signed.{mag}
 use mir.Syntax.{w16}
 use mir.Val.{to_z, of_z}
 use mir.Facts.{to_z-of_z}
+use Rattle.std.proofs.lemmas.Grind.{common_steps}
 use Rattle.integers.proofs.Diff.{Diff}
 use Rattle.lists.proofs.Each.{every_at, every_true, and_left}
 use Rattle.frames.specs.Codes.{sample_sound}
@@ -35,16 +36,8 @@ pub sound_size : (s : ℤ) → sample_sound s ≡ true → nat_abs s ≤ 512
 sound_size (pos n) h = omega (arith, leb-true n 511 h)
 sound_size (negsuc n) h = omega (arith, leb-true n 511 (and_left (leb n 511) true h))
 
--- what holds of an element, and of the one that is stored, holds of it after the store
-pub set_keeps : {A : Type 0} (P : A → Type 0) (l : List A) (i k : ℕ) (a d : A) → P a → P (get_or l k d) → P (get_or (set l i a) k d)
-set_keeps P [] i k a d p q = q
-set_keeps P (x ∷ l) zero zero a d p q = p
-set_keeps P (x ∷ l) zero (suc k) a d p q = q
-set_keeps P (x ∷ l) (suc i) zero a d p q = q
-set_keeps P (x ∷ l) (suc i) (suc k) a d p q = set_keeps P l i k a d p q
-
 -- a sound sample may be stored in any slot
 pub window_set : (w : List ℤ) (i : ℕ) (s : ℤ) → window_sound w ≡ true → sample_sound s ≡ true → window_sound (set w i s) ≡ true
 unfolding window_sound
 window_set w i s h g =
-    every_true 8 (λ k. sample_sound (sample_at (set w i s) k)) (λ k l. set_keeps (λ z. sample_sound z ≡ true) w i k s (pos 0) g (sample_at_lem w h k l))
+    every_true 8 (λ k. sample_sound (sample_at (set w i s) k)) (λ k l. grind (arith, common_steps, g, sample_at_lem w h k l))

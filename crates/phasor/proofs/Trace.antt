@@ -4,12 +4,12 @@ use mathlib.Core.Path.{◌≡◌, ap}
 use mathlib.Core.Bool.{cond}
 use mathlib.Core.Logic.{◌⊎◌, inl, inr, ⊎_elim}
 use Prim.Native.Nat.{ℕ, zero, suc, ◌+◌, ◌*◌, ◌/◌, ◌^◌, ◌≤◌, ◌<◌, zero-le}
-use native.Mathlib.Nat.{div-add-mod, mod-lt}
 use native.Mathlib.Omega.{arith}
 use borrow.Author.Tests.{le-leb}
 use lib.Dec.{T}
 use lib.IntN.{ℤ, pos, negsuc, nat_abs, ◌+ℤ◌, ◌-ℤ◌}
 use lib.Signed.{shr_z, le_z, non_neg}
+use Rattle.std.proofs.lemmas.Nat.{pow_pos}
 use Rattle.integers.proofs.Diff.{of_pos, sub, add, size, of}
 use Rattle.integers.proofs.Squares.{distance}
 use Rattle.phasor.specs.declared.Point.{Point}
@@ -18,7 +18,7 @@ use Rattle.phasor.proofs.Lengths.{Step}
 
 -- a quotient rounded down
 parted : (y k : ℕ) → 0 < k → (k * (y / k) ≤ y) × (y < k * (y / k) + k)
-parted y k p = (omega (arith, div-add-mod y k), omega (arith, div-add-mod y k, mod-lt y p))
+parted y k p = (omega arith, omega arith)
 
 -- x grows by q, which is y / k rounded down or up, and the next y is d, by which y and x / k differ
 module _ (k x y : ℕ) (pos-k : 0 < k) where
@@ -77,10 +77,6 @@ stepped k (pos x) (negsuc y) p t =
   where
     apart : (d : ℕ) → (0 + x / k ≡ suc y + 0 + d) ⊎ (suc y + 0 ≡ 0 + x / k + d) → (suc y ≡ x / k + d) ⊎ (x / k ≡ suc y + d)
     apart d h = ⊎_elim (λ e. inr (omega arith)) (λ e. inl (omega arith)) h
-
-pub pow_pos : (i : ℕ) → 0 < 2 ^ i
-pow_pos zero = omega arith
-pow_pos (suc i) = omega (arith, pow_pos i)
 
 -- the sizes of x and y after i steps from p
 unfoldable pub xs : Point → ℕ → ℕ

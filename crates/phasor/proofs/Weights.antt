@@ -1,5 +1,5 @@
 -- The slots of a sum of sample times weight: each sum over a sound window is small, so that one slot more fits in 32 bits, and one slot more is one
--- term more. What the loops of `fundamental` and `sums` share, for any order. Rests on Samples.
+-- term more: the steps of the loop of `sums`, for any order. Rests on Samples.
 use Prim.Native.Nat.{ℕ, zero, suc, ◌+◌, ◌*◌, ◌%◌, ◌<◌, ◌≤◌, ◌^◌}
 use native.Mathlib.Nat.{mul-le-mul}
 use native.Mathlib.Omega.{arith}

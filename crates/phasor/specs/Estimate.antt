@@ -1,8 +1,9 @@
 -- The estimate of one window for an order (document 02, Paper 8): "The estimate takes an order p of 1, 2 or 3", and
 -- "Refused: 19 for an order outside 1 to 3 or a window sample outside −512 to 511, amplitude 0". Rests on Cordic, on
 -- Window and on the refusals.
-use Rattle.std.specs.Prelude.{ℕ, Bool, ◌&&◌, cond, List, [], ◌∷◌, ℤ, leb, eqb}
-use Rattle.refusals.specs.Refusals.{Check, ◌or_else◌, first_fault, accepted, bad_estimate}
+use Rattle.std.specs.Prelude.{ℕ, Bool, ◌&&◌, cond, List, [], ◌∷◌, ℤ, leb, eqb, Result, Ok, Err}
+use Rattle.refusals.specs.declared.Refusal.{Refusal}
+use Rattle.refusals.specs.Refusals.{Check, ◌or_else◌, first_fault, accepted, bad_estimate, number_of}
 use Rattle.phasor.specs.declared.EstimateAnswer.{EstimateAnswer}
 use Rattle.phasor.specs.Window.{window_sound}
 use Rattle.phasor.specs.Cordic.{amplitude_of}
@@ -23,3 +24,8 @@ estimate_of w p =
       refusal = estimate_refusal w p;
       amplitude = cond (eqb (estimate_refusal w p) accepted) (amplitude_of p w) 0;
     }
+
+-- the refusal's number, 0 where the estimate is accepted, and the amplitude
+abbrev pub estimate_answer_of : Result ℕ Refusal → EstimateAnswer
+estimate_answer_of (Ok amplitude) = record { refusal = accepted; amplitude = amplitude }
+estimate_answer_of (Err refusal) = record { refusal = number_of refusal; amplitude = 0 }

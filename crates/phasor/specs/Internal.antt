@@ -1,9 +1,13 @@
 -- What the contracts of this crate's own functions cite; no other crate reads it: the lanes in which CORDIC runs.
--- Rests on Fourier and Cordic.
-use Rattle.std.specs.Prelude.{ℕ, ◌+◌, ◌*◌, ◌^◌, ◌<◌, ◌≤◌, ◌≡◌, List, T, get_or, ℤ, pos, nat_abs, ◌+ℤ◌, ◌*ℤ◌}
+-- Rests on Fourier, Cordic and Lanes.
+use Rattle.std.specs.Prelude.{ℕ, ◌+◌, ◌*◌, ◌^◌, ◌<◌, ◌≤◌, ◌≡◌, true, List, T, get_or, ℤ, pos, nat_abs, ◌+ℤ◌, ◌*ℤ◌}
 use Rattle.std.specs.Int.Signed.{non_neg}
+use Rattle.lists.specs.Each.{table}
 use Rattle.phasor.specs.declared.Point.{Point}
-use Rattle.phasor.specs.Cordic.{start_at, start_of, end_of}
+use Rattle.phasor.specs.declared.Window.{Window}
+use Rattle.phasor.specs.Window.{window_sound}
+use Rattle.phasor.specs.Cordic.{start_at, start_of, end_of, amplitude_of}
+use Rattle.phasor.specs.Lanes.{channel_window}
 use Rattle.phasor.specs.Fourier.{cosines, sines, weight_at, sum_over, re, im}
 
 -- a point from which sixteen steps stay inside 32 bits: x is not negative, and x² + y² is at most 48,000,000²
@@ -30,19 +34,30 @@ pub record SlotFits (q : Point) (s : ℤ) (k p : ℕ) : Type 0 where
   pub x : nat_abs q.x ≤ 7 * 2 ^ 23
   pub y : nat_abs q.y ≤ 7 * 2 ^ 23
 
--- where CORDIC starts in lane c, which holds two sums
-abbrev pub point_at : List ℤ → List ℤ → ℕ → Point
-point_at xs ys c = start_at (get_or xs c (pos 0)) (get_or ys c (pos 0))
+-- where CORDIC starts in lane c, from the two sums there
+abbrev pub no_sums : Point
+no_sums = record { x = pos 0; y = pos 0 }
+
+abbrev pub point_at : List Point → ℕ → Point
+point_at sums c = start_at (get_or sums c no_sums).x (get_or sums c no_sums).y
 
 -- the steps fit in each lane, a spare one too
-abbrev pub AllStepsFit : List ℤ → List ℤ → Type 0
-AllStepsFit xs ys = (c : ℕ) → StepsFit (point_at xs ys c)
+abbrev pub AllStepsFit : List Point → Type 0
+AllStepsFit sums = (c : ℕ) → StepsFit (point_at sums c)
 
 -- the first n lanes hold the sums of n windows for an order, and the steps fit in each lane
-pub record StartsOf (p : ℕ) (window : ℕ → List ℤ) (n : ℕ) (xs ys : List ℤ) : Type 0 where
-  pub starts : (c : ℕ) → c < n → point_at xs ys c ≡ start_of p (window c)
-  pub fit : AllStepsFit xs ys
+pub record StartsOf (p : ℕ) (window : ℕ → List ℤ) (n : ℕ) (sums : List Point) : Type 0 where
+  pub starts : (c : ℕ) → c < n → point_at sums c ≡ start_of p (window c)
+  pub fit : AllStepsFit sums
 
 -- the first n numbers are where x ends in the lanes
-abbrev pub EndsOf : List ℤ → List ℤ → ℕ → List ℤ → Type 0
-EndsOf xs ys n e = (c : ℕ) → c < n → get_or e c (pos 0) ≡ end_of (point_at xs ys c)
+abbrev pub EndsOf : List Point → ℕ → List ℤ → Type 0
+EndsOf sums n e = (c : ℕ) → c < n → get_or e c (pos 0) ≡ end_of (point_at sums c)
+
+-- each of n windows is sound
+abbrev pub AllSound : ℕ → List Window → Type 0
+AllSound n ws = (c : ℕ) → c < n → window_sound (channel_window ws c) ≡ true
+
+-- the amplitudes of n windows for an order
+abbrev pub all_amplitudes : ℕ → ℕ → List Window → List ℕ
+all_amplitudes p n ws = table n (λ c. amplitude_of p (channel_window ws c))

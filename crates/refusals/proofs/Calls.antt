@@ -4,8 +4,13 @@ use mathlib.Core.Bool.{true, false}
 use Prim.Native.Nat.{ℕ}
 use mathlib.Core.List.{List, [], ◌∷◌, map}
 use Rattle.refusals.specs.Refusals as refusals
-use Rattle.refusals.specs.Refusals.{◌or_else◌, first_fault}
-use Rattle.refusals.specs.Outcomes.{outcome_of}
+use Rattle.refusals.specs.Refusals.{◌or_else◌, first_fault, number_of}
+use Rattle.refusals.specs.Outcomes.{outcome_of, refusal_in, count_in, answer_of}
+use Rattle.std.specs.Prelude.{Ok, Err}
+use Rattle.refusals.specs.declared.Refusal.TheVariants.{BadSetting, UnsoundRelay, BadCode, BadEnable, BadMask}
+use Rattle.refusals.specs.declared.Refusal.TheVariants.{MarkDiffers, BadSecondByte, EndsEarly, OutOfRange, BytesAfter}
+use Rattle.refusals.specs.declared.Refusal.TheVariants.{DoesNotFit, WrongShape, FewFrames, BadEstimate, BadRestraint}
+use Rattle.refusals.specs.declared.Refusal.TheVariants.{BadLength, AllEven}
 
 -- Document 01's table, row by row, and document 02's numbers.
 pub record Rows : Type 0 where
@@ -46,6 +51,58 @@ rows =
       restraint = refl;
       length = refl;
       even = refl;
+    }
+
+-- The number of each refusal, in the table's order and in document 02's.
+pub record Numbers : Type 0 where
+  pub settings : number_of BadSetting ≡ 1
+  pub relay : number_of UnsoundRelay ≡ 2
+  pub frame : (number_of BadCode ≡ 3) × (number_of BadEnable ≡ 4)
+  pub reset : number_of BadMask ≡ 5
+  pub capture : (number_of MarkDiffers ≡ 6) × (number_of BadSecondByte ≡ 7) × (number_of EndsEarly ≡ 8)
+  pub range : number_of OutOfRange ≡ 9
+  pub after : number_of BytesAfter ≡ 10
+  pub room : number_of DoesNotFit ≡ 11
+  pub shape : number_of WrongShape ≡ 12
+  pub few : number_of FewFrames ≡ 13
+  pub estimate : number_of BadEstimate ≡ 19
+  pub restraint : number_of BadRestraint ≡ 20
+  pub length : number_of BadLength ≡ 21
+  pub even : number_of AllEven ≡ 24
+
+pub numbers : Numbers
+numbers =
+    record {
+      settings = refl;
+      relay = refl;
+      frame = (refl, refl);
+      reset = refl;
+      capture = (refl, refl, refl);
+      range = refl;
+      after = refl;
+      room = refl;
+      shape = refl;
+      few = refl;
+      estimate = refl;
+      restraint = refl;
+      length = refl;
+      even = refl;
+    }
+
+-- What an accepted and a refused call answer, and what C is answered.
+pub record Answers : Type 0 where
+  pub taken : (refusal_in {A = ℕ} (Ok 5) ≡ 0) × (count_in (Ok 5) ≡ 5)
+  pub refused : (refusal_in {A = ℕ} (Err AllEven) ≡ 24) × (count_in (Err AllEven) ≡ 0)
+  pub taken_at_c : answer_of (Ok 5) ≡ record { refusal = 0; count = 5 }
+  pub refused_at_c : answer_of (Err DoesNotFit) ≡ record { refusal = 11; count = 0 }
+
+pub answers : Answers
+answers =
+    record {
+      taken = (refl, refl);
+      refused = (refl, refl);
+      taken_at_c = refl;
+      refused_at_c = refl;
     }
 
 -- the numbers of the refusals

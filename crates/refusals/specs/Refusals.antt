@@ -1,6 +1,11 @@
 -- Document 01, "Refusals": the thirteen rows of its table, those of document 02 that have landed, and how a list of
 -- checks gives one of their numbers. Rests on nothing.
 use Rattle.std.specs.Prelude.{ℕ, Bool, cond, List, [], ◌∷◌}
+use Rattle.refusals.specs.declared.Refusal.{Refusal}
+use Rattle.refusals.specs.declared.Refusal.TheVariants.{BadSetting, UnsoundRelay, BadCode, BadEnable, BadMask}
+use Rattle.refusals.specs.declared.Refusal.TheVariants.{MarkDiffers, BadSecondByte, EndsEarly, OutOfRange, BytesAfter}
+use Rattle.refusals.specs.declared.Refusal.TheVariants.{DoesNotFit, WrongShape, FewFrames, BadEstimate, BadRestraint}
+use Rattle.refusals.specs.declared.Refusal.TheVariants.{BadLength, AllEven}
 
 -- The rows of the table; 0 is an accepted call.
 abbrev pub accepted : ℕ  -- "An accepted call's number is 0."
@@ -59,6 +64,26 @@ bad_length = 21
 -- Document 02, Paper 12.
 abbrev pub all_even : ℕ  -- "24 if all 55 are even"
 all_even = 24
+
+-- The number of a refusal.
+abbrev pub number_of : Refusal → ℕ
+number_of BadSetting = bad_setting
+number_of UnsoundRelay = unsound_relay
+number_of BadCode = bad_code
+number_of BadEnable = bad_enable
+number_of BadMask = bad_mask
+number_of MarkDiffers = mark_differs
+number_of BadSecondByte = bad_second_byte
+number_of EndsEarly = ends_early
+number_of OutOfRange = out_of_range
+number_of BytesAfter = bytes_after
+number_of DoesNotFit = does_not_fit
+number_of WrongShape = wrong_shape
+number_of FewFrames = few_frames
+number_of BadEstimate = bad_estimate
+number_of BadRestraint = bad_restraint
+number_of BadLength = bad_length
+number_of AllEven = all_even
 
 -- A check: what must hold, and the number of the refusal where it does not.
 infix 20 ◌or_else◌

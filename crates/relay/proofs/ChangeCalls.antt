@@ -12,7 +12,7 @@ use Rattle.relay.specs.declared.Channel.{Channel}
 use Rattle.relay.specs.declared.ChannelLevels.{ChannelLevels}
 use Rattle.relay.specs.declared.Levels.{Levels}
 use Rattle.relay.specs.declared.Relay.{Relay}
-use Rattle.relay.specs.declared.ChangeAnswer.{ChangeAnswer}
+use Rattle.relay.specs.declared.RelayAnswer.{RelayAnswer}
 use Rattle.lists.specs.Each.{table}
 use Rattle.relay.specs.Settings.{levels_of, loss, over}
 use Rattle.relay.specs.Relay.{channel_at, fresh_of, frame_of, reset_of, change_of}
@@ -90,7 +90,7 @@ abbrev relay : Bool → ℕ → ℕ → List Channel → Levels → Relay
 relay on age slot channels levels =
     record { channels = channels; age = age; slot = slot; device_on = on; settings = settings_of levels }
 
-abbrev answer : ℕ → Relay → ChangeAnswer
+abbrev answer : ℕ → Relay → RelayAnswer
 answer refusal r = record { relay = r; refusal = refusal }
 
 -- Two relays, by their runs and levels. Runs are full or not with a latch on or off, all above 0 in the first; in the
@@ -124,33 +124,33 @@ abbrev second : Relay
 second = two losses2 overs2 old
 
 -- what each is under new levels: loss run c is 0, over run k is 0, neither is, and all are
-abbrev loss_gone : Levels → ℕ → List ChangeAnswer
+abbrev loss_gone : Levels → ℕ → List RelayAnswer
 loss_gone l c = answer 0 (one (set losses1 c 0) overs1 l) ∷ answer 0 (two (set losses2 c 0) overs2 l) ∷ []
 
-abbrev over_gone : Levels → ℕ → List ChangeAnswer
+abbrev over_gone : Levels → ℕ → List RelayAnswer
 over_gone l k = answer 0 (one losses1 (set overs1 k 0) l) ∷ answer 0 (two losses2 (set overs2 k 0) l) ∷ []
 
-abbrev kept : Levels → List ChangeAnswer
+abbrev kept : Levels → List RelayAnswer
 kept l = answer 0 (one losses1 overs1 l) ∷ answer 0 (two losses2 overs2 l) ∷ []
 
-abbrev all_gone : Levels → List ChangeAnswer
+abbrev all_gone : Levels → List RelayAnswer
 all_gone l = answer 0 (one (replicate 6 0) (replicate 3 0) l) ∷ answer 0 (two (replicate 6 0) (replicate 3 0) l) ∷ []
 
 -- both as given
-abbrev refused : ℕ → List ChangeAnswer
+abbrev refused : ℕ → List RelayAnswer
 refused refusal = answer refusal first ∷ answer refusal second ∷ []
 
-abbrev both : Levels → List ChangeAnswer
+abbrev both : Levels → List RelayAnswer
 both l = change_of first l ∷ change_of second l ∷ []
 
 -- one level at a value, in each place
-abbrev each_drop : ℕ → List (List ChangeAnswer)
+abbrev each_drop : ℕ → List (List RelayAnswer)
 each_drop level = table 6 (λ c. both (drop_at level c))
 
-abbrev each_pickup : ℕ → List (List ChangeAnswer)
+abbrev each_pickup : ℕ → List (List RelayAnswer)
 each_pickup level = table 3 (λ k. both (pickup_at level k))
 
-abbrev each_restraint : ℕ → List (List ChangeAnswer)
+abbrev each_restraint : ℕ → List (List RelayAnswer)
 each_restraint r = table 3 (λ k. both (restraint_at r k))
 
 -- each binary digit of a level, and of a restraint
@@ -161,27 +161,27 @@ abbrev digits : List ℕ
 digits = small_digits ++ (128 ∷ 256 ∷ 512 ∷ 1024 ∷ 2048 ∷ 4096 ∷ 8192 ∷ [])
 
 -- six drops, three pickups or three restraints moved from the first value to the second
-abbrev drops_from : ℕ → ℕ → ChangeAnswer
+abbrev drops_from : ℕ → ℕ → RelayAnswer
 drops_from a b =
     change_of (one losses1 overs1 (levels (replicate 6 a) pickups restraints))
     (levels (replicate 6 b) pickups restraints)
 
-abbrev pickups_from : ℕ → ℕ → ChangeAnswer
+abbrev pickups_from : ℕ → ℕ → RelayAnswer
 pickups_from a b =
     change_of (one losses1 overs1 (levels drops (replicate 3 a) restraints)) (levels drops (replicate 3 b) restraints)
 
-abbrev restraints_from : ℕ → ℕ → ChangeAnswer
+abbrev restraints_from : ℕ → ℕ → RelayAnswer
 restraints_from a b =
     change_of (one losses1 overs1 (levels drops pickups (replicate 3 a))) (levels drops pickups (replicate 3 b))
 
 -- what they leave
-abbrev drops_moved : ℕ → ChangeAnswer
+abbrev drops_moved : ℕ → RelayAnswer
 drops_moved b = answer 0 (one (replicate 6 0) overs1 (levels (replicate 6 b) pickups restraints))
 
-abbrev pickups_moved : ℕ → ChangeAnswer
+abbrev pickups_moved : ℕ → RelayAnswer
 pickups_moved b = answer 0 (one losses1 (replicate 3 0) (levels drops (replicate 3 b) restraints))
 
-abbrev restraints_moved : ℕ → ChangeAnswer
+abbrev restraints_moved : ℕ → RelayAnswer
 restraints_moved b = answer 0 (one losses1 (replicate 3 0) (levels drops pickups (replicate 3 b)))
 
 -- six channels with the same runs and latches, settled

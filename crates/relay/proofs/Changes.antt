@@ -17,7 +17,7 @@ use Rattle.relay.specs.declared.ChannelLevels.{ChannelLevels}
 use Rattle.relay.specs.declared.Lengths.{Lengths}
 use Rattle.relay.specs.declared.Levels.{Levels}
 use Rattle.relay.specs.declared.Relay.{Relay}
-use Rattle.relay.specs.declared.ChangeAnswer.{ChangeAnswer}
+use Rattle.relay.specs.declared.RelayAnswer.{RelayAnswer}
 use Rattle.relay.specs.Settings.{is_current, nine_sound, restraints_sound, levels_of, same_drop, same_pickup}
 use Rattle.relay.specs.Channel.{no_channel, carried_over}
 use Rattle.relay.specs.Sound.{over_sound, channel_sound, sound_of, SoundRelay}
@@ -114,7 +114,7 @@ carries_over r new = by (eqb (change_refusal r new) 0)
         ≡ carried_over (levels_of r.settings.levels c) (levels_of new c) (channel_at r c)
     at c l = change_channel r new c l
 
-    by : (b : Bool) → CarriesOver r (cond {A = ChangeAnswer} b (accepted_change r new) (refused_change r (change_refusal r new))).relay
+    by : (b : Bool) → CarriesOver r (cond {A = RelayAnswer} b (accepted_change r new) (refused_change r (change_refusal r new))).relay
     by true =
         record {
           age = refl;
@@ -145,7 +145,7 @@ module _ (r : Relay) (new : Levels) (s : sound_of r ≡ true) (e : level_refusal
 
   carried : channel_at (change_of r new).relay c ≡ carried_over was now (channel_at r c)
   unfolding changed_channel
-  carried = ap (λ (a : ChangeAnswer). channel_at a.relay c) (change_accepted r new s e) ∙ change_channel r new c h
+  carried = ap (λ (a : RelayAnswer). channel_at a.relay c) (change_accepted r new s e) ∙ change_channel r new c h
 
   pub loss_kept : was.drop ≡ now.drop → (channel_at (change_of r new).relay c).loss_run ≡ (channel_at r c).loss_run
   loss_kept q = ap (λ (ch : Channel). ch.loss_run) carried ∙ rw (eq-eqb was.drop now.drop q)

@@ -14,7 +14,7 @@ use Rattle.relay.specs.declared.Levels.{Levels}
 use Rattle.relay.specs.declared.Settings.{Settings}
 use Rattle.relay.specs.declared.Relay.{Relay}
 use Rattle.relay.specs.declared.FrameAnswer.{FrameAnswer}
-use Rattle.relay.specs.declared.ResetAnswer.{ResetAnswer}
+use Rattle.relay.specs.declared.RelayAnswer.{RelayAnswer}
 use Rattle.lists.specs.Each.{table}
 use Rattle.frames.specs.Bits.{bits_below}
 use Rattle.relay.specs.Settings.{levels_of}
@@ -94,7 +94,7 @@ accepted_answer r output = record { relay = r; refusal = 0; amplitudes = replica
 abbrev pub refused_answer : Relay → ℕ → FrameAnswer
 refused_answer r refusal = record { relay = r; refusal = refusal; amplitudes = replicate 6 0; output = 0 }
 
-abbrev pub reset_answer : Relay → ℕ → ResetAnswer
+abbrev pub reset_answer : Relay → ℕ → RelayAnswer
 reset_answer r refusal = record { relay = r; refusal = refusal }
 
 -- a settled relay with a loss run on each channel and an over run on each current, all latches on or all off

@@ -23,7 +23,7 @@ use Rattle.relay.specs.declared.ChannelLevels.{ChannelLevels}
 use Rattle.relay.specs.declared.Lengths.{Lengths}
 use Rattle.relay.specs.declared.Settings.{Settings}
 use Rattle.relay.specs.declared.Relay.{Relay}
-use Rattle.relay.specs.declared.FreshAnswer.{FreshAnswer}
+use Rattle.relay.specs.declared.RelayAnswer.{RelayAnswer}
 use Rattle.frames.specs.Bits.{bit_of, enabled_in}
 use Rattle.relay.specs.Settings.{is_current, nine_sound, restraints_sound, length_in_range, lengths_sound, settings_sound, levels_of, unrestrained_by}
 use Rattle.relay.specs.Settings.{most_length, settled, loss}
@@ -39,11 +39,11 @@ use Rattle.relay.specs.Relay.{reset_channel, accepted_reset, refused_reset, mask
 
 -- an answer is that of an accepted call only where the refusal is 0
 not_refused : (r s : Relay) (n : ℕ)
-    → (cond {A = FreshAnswer} (eqb n 0) (record { relay = r; refusal = 0 }) (record { relay = s; refusal = n })).refusal ≡ 0 → n ≡ 0
+    → (cond {A = RelayAnswer} (eqb n 0) (record { relay = r; refusal = 0 }) (record { relay = s; refusal = n })).refusal ≡ 0 → n ≡ 0
 not_refused r s n e = by (eqb n 0) refl e
   where
     by : (b : Bool) → eqb n 0 ≡ b
-        → (cond {A = FreshAnswer} b (record { relay = r; refusal = 0 }) (record { relay = s; refusal = n })).refusal ≡ 0 → n ≡ 0
+        → (cond {A = RelayAnswer} b (record { relay = r; refusal = 0 }) (record { relay = s; refusal = n })).refusal ≡ 0 → n ≡ 0
     by true q e = eqb-true n 0 q
     by false q e = e
 

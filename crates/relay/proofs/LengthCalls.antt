@@ -14,9 +14,8 @@ use Rattle.relay.specs.declared.Lengths.{Lengths}
 use Rattle.relay.specs.declared.Levels.{Levels}
 use Rattle.relay.specs.declared.Settings.{Settings}
 use Rattle.relay.specs.declared.Relay.{Relay}
-use Rattle.relay.specs.declared.FreshAnswer.{FreshAnswer}
+use Rattle.relay.specs.declared.RelayAnswer.{RelayAnswer}
 use Rattle.relay.specs.declared.FrameAnswer.{FrameAnswer}
-use Rattle.relay.specs.declared.ChangeAnswer.{ChangeAnswer}
 use Rattle.relay.specs.Sound.{channel_sound, sound_of}
 use Rattle.relay.specs.Relay.{fresh_of, frame_of, reset_of, change_of}
 use Rattle.relay.proofs.Computed.{computed}
@@ -58,7 +57,7 @@ bad_both = table 6 (λ c. with_restraint (with_drop good 0 c) 101 (c % 3)) ++ ta
 
 -- ---- making a relay
 
-abbrev refused_fresh : ℕ → FreshAnswer
+abbrev refused_fresh : ℕ → RelayAnswer
 refused_fresh refusal = record { relay = all_zero; refusal = refusal }
 
 -- what each number gives as one length, the other as given
@@ -76,7 +75,7 @@ abbrev to24 : {A : Type 0} → A → A → List A
 to24 inside outside = outside ∷ replicate 24 inside ++ replicate 231 outside
 
 -- each of some levels beside each of the lengths that are out of range
-abbrev beside_bad : List Levels → List (List FreshAnswer)
+abbrev beside_bad : List Levels → List (List RelayAnswer)
 beside_bad levels = map (λ l. map (λ x. fresh_of (with x l)) levels) bad_pairs
 
 -- ---- relays that are handed in
@@ -92,7 +91,7 @@ idle l = relay (with good l) true 72 7 still
 abbrev holding : Lengths → Channel → ℕ → Relay
 holding l ch c = relay (with good l) true 72 7 (set still c ch)
 
-abbrev changed : ℕ → Relay → ChangeAnswer
+abbrev changed : ℕ → Relay → RelayAnswer
 changed refusal r = record { relay = r; refusal = refusal }
 
 -- what a frame, a reset and a change answer, in each channel or in each current

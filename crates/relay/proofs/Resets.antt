@@ -14,7 +14,7 @@ use Rattle.lists.proofs.Each.{length_table}
 use Rattle.frames.specs.Bits.{bit_of}
 use Rattle.relay.specs.declared.Channel.{Channel}
 use Rattle.relay.specs.declared.Relay.{Relay}
-use Rattle.relay.specs.declared.ResetAnswer.{ResetAnswer}
+use Rattle.relay.specs.declared.RelayAnswer.{RelayAnswer}
 use Rattle.relay.specs.Channel.{no_channel, cleared_of}
 use Rattle.relay.specs.Sound.{sound_of}
 use Rattle.relay.specs.Relay.{channel_at, reset_channel, accepted_reset, refused_reset, mask_refusal, reset_of}
@@ -57,7 +57,7 @@ high_fails mask h l = by (bit_of mask 6) refl (bit_of mask 7) refl
 -- on a sound relay masks 0 to 63 are answered by 0, every other byte by 5 with the relay as given
 pub reset_answers : (r : Relay) → sound_of r ≡ true → (mask : ℕ) → mask ≤ 63 → (reset_of r mask).refusal ≡ 0
 unfolding accepted_reset
-reset_answers r s mask h = ap (λ (a : ResetAnswer). a.refusal) (reset_accepted r mask s (low_passes mask h))
+reset_answers r s mask h = ap (λ (a : RelayAnswer). a.refusal) (reset_accepted r mask s (low_passes mask h))
 
 pub reset_high : (r : Relay) → sound_of r ≡ true → (mask : ℕ) → 63 < mask → mask < 256 → reset_of r mask ≡ record { relay = r; refusal = 5 }
 unfolding refused_reset
@@ -70,7 +70,7 @@ accepted_masks r s mask h = (by (ltb 63 mask) refl, reset_answers r s mask)
   where
     by : (b : Bool) → ltb 63 mask ≡ b → (reset_of r mask).refusal ≡ 0 → mask ≤ 63
     by true q e =
-        let five : (reset_of r mask).refusal ≡ 5 = ap (λ (a : ResetAnswer). a.refusal) (reset_high r s mask (ltb-true 63 mask q) h) in
+        let five : (reset_of r mask).refusal ≡ 5 = ap (λ (a : RelayAnswer). a.refusal) (reset_high r s mask (ltb-true 63 mask q) h) in
         absurd (omega arith)
     by false q e = ltb-false 63 mask q
 

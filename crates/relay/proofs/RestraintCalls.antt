@@ -10,7 +10,7 @@ use lib.ListN.{set, replicate}
 use Rattle.relay.specs.declared.Channel.{Channel}
 use Rattle.relay.specs.declared.Settings.{Settings}
 use Rattle.relay.specs.declared.Relay.{Relay}
-use Rattle.relay.specs.declared.FreshAnswer.{FreshAnswer}
+use Rattle.relay.specs.declared.RelayAnswer.{RelayAnswer}
 use Rattle.relay.specs.declared.FrameAnswer.{FrameAnswer}
 use Rattle.lists.specs.Each.{table}
 use Rattle.phasor.specs.Cordic.{amplitude_of}
@@ -253,17 +253,17 @@ with_restraint restraint = levels 1 10700 (three 1 10700 1) restraint
 abbrev restrained_at : ℕ → ℕ → Settings
 restrained_at r k = with_restraint (set (replicate 3 0) k r)
 
-abbrev made_with : Settings → FreshAnswer
+abbrev made_with : Settings → RelayAnswer
 made_with s = record { relay = relay_of 0 0 s still; refusal = 0 }
 
-abbrev none_made : ℕ → FreshAnswer
+abbrev none_made : ℕ → RelayAnswer
 none_made refusal = record { relay = all_zero; refusal = refusal }
 
 -- a level out of range in each place, beside a restraint of 101 in each place
-abbrev bad_drop : ℕ → ℕ → ℕ → FreshAnswer
+abbrev bad_drop : ℕ → ℕ → ℕ → RelayAnswer
 bad_drop level c k = fresh_of (settings_of (record { drop = set (replicate 6 1) c level; pickup = replicate 3 1; restraint = set (replicate 3 0) k 101 }))
 
-abbrev bad_pickup : ℕ → ℕ → ℕ → FreshAnswer
+abbrev bad_pickup : ℕ → ℕ → ℕ → RelayAnswer
 bad_pickup level j k = fresh_of (settings_of (record { drop = replicate 6 1; pickup = set (replicate 3 1) j level; restraint = set (replicate 3 0) k 101 }))
 
 -- ---- a list of frames from a fresh relay

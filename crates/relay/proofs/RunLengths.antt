@@ -17,8 +17,7 @@ use Rattle.relay.specs.declared.Levels.{Levels}
 use Rattle.relay.specs.declared.Settings.{Settings}
 use Rattle.relay.specs.declared.Relay.{Relay}
 use Rattle.relay.specs.declared.FrameAnswer.{FrameAnswer}
-use Rattle.relay.specs.declared.ResetAnswer.{ResetAnswer}
-use Rattle.relay.specs.declared.ChangeAnswer.{ChangeAnswer}
+use Rattle.relay.specs.declared.RelayAnswer.{RelayAnswer}
 use Rattle.relay.specs.Settings.{is_current, nine_sound, restraints_sound, length_in_range, lengths_sound, Kind, loss, over}
 use Rattle.relay.specs.Channel.{next_run, next_latch}
 use Rattle.relay.specs.Sound.{over_sound, channel_sound, sound_of}
@@ -85,7 +84,7 @@ pub reset_lengths : (r : Relay) (mask : ℕ) → (reset_of r mask).relay.setting
 unfolding reset_of accepted_reset refused_reset
 reset_lengths r mask = by (eqb (reset_refusal r mask) 0)
   where
-    by : (b : Bool) → (cond {A = ResetAnswer} b (accepted_reset r mask) (refused_reset r (reset_refusal r mask))).relay.settings ≡ r.settings
+    by : (b : Bool) → (cond {A = RelayAnswer} b (accepted_reset r mask) (refused_reset r (reset_refusal r mask))).relay.settings ≡ r.settings
     by true = refl
     by false = refl
 
@@ -94,7 +93,7 @@ unfolding change_of accepted_change refused_change
 change_lengths r new = by (eqb (change_refusal r new) 0)
   where
     by : (b : Bool)
-        → (cond {A = ChangeAnswer} b (accepted_change r new) (refused_change r (change_refusal r new))).relay.settings.lengths ≡ r.settings.lengths
+        → (cond {A = RelayAnswer} b (accepted_change r new) (refused_change r (change_refusal r new))).relay.settings.lengths ≡ r.settings.lengths
     by true = refl
     by false = refl
 

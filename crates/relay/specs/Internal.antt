@@ -1,8 +1,7 @@
--- What the contracts of this crate's own functions cite, and no entry point's: refusals by whether the relay is sound,
--- lists of six made by the rules for channel c, and soundness by its parts. Rests on these rules.
-use Rattle.std.specs.Prelude.{ℕ, Bool, ◌&&◌, List, ◌∷◌, leb, eqb, get_or}
+-- What the contracts of this crate's own functions cite, and no entry point's: lists of six made by the rules for
+-- channel c, and soundness by its parts. Rests on these rules.
+use Rattle.std.specs.Prelude.{ℕ, Bool, ◌&&◌, List, leb, eqb, get_or}
 use Rattle.lists.specs.Each.{every, table}
-use Rattle.refusals.specs.Refusals.{◌or_else◌, first_fault, unsound_relay}
 use Rattle.phasor.specs.Lanes.{channel_window}
 use Rattle.phasor.specs.Window.{window_sound}
 use Rattle.phasor.specs.declared.Window.{Window}
@@ -15,18 +14,7 @@ use Rattle.frames.specs.Bits.{bits_below, enabled_in}
 use Rattle.relay.specs.Channel.{no_channel, window_after, channel_with, latch_on}
 use Rattle.relay.specs.Settings.{is_current, levels_of, unrestrained_by, settings_sound, settled}
 use Rattle.relay.specs.Sound.{over_sound}
-use Rattle.relay.specs.Relay.{window_in, input_checks, reset_channel, mask_checks, level_checks, changed_channel}
-
--- ---- refusals
-
-unfoldable pub frame_refusal_by : Bool → List ℕ → ℕ → ℕ
-frame_refusal_by sound codes enable = first_fault ((sound or_else unsound_relay) ∷ input_checks codes enable)
-
-unfoldable pub reset_refusal_by : Bool → ℕ → ℕ
-reset_refusal_by sound mask = first_fault ((sound or_else unsound_relay) ∷ mask_checks mask)
-
-unfoldable pub change_refusal_by : Bool → Levels → ℕ
-change_refusal_by sound new = first_fault ((sound or_else unsound_relay) ∷ level_checks new)
+use Rattle.relay.specs.Relay.{window_in, reset_channel, changed_channel}
 
 -- ---- six channels
 
@@ -41,10 +29,14 @@ unfoldable pub windows_of : ℕ → List ℕ → List Channel → List Window
 windows_of slot codes channels = table 6 (stored_at slot codes channels)
 
 -- channel c after steps 1 to 4, its bit of the output, and all of both, from the windows that step 1 leaves
+abbrev pub channel_of : Settings → Bool → ℕ → List Window → ℕ → Channel → Channel
+channel_of settings counted enable windows c channel =
+    channel_with settings.lengths (levels_of settings.levels c) counted (enabled_in enable c)
+    (channel_window windows c) channel
+
 unfoldable pub channel_in : Settings → Bool → ℕ → List Window → List Channel → ℕ → Channel
 channel_in settings counted enable windows channels c =
-    channel_with settings.lengths (levels_of settings.levels c) counted (enabled_in enable c)
-    (channel_window windows c) (get_or channels c no_channel)
+    channel_of settings counted enable windows c (get_or channels c no_channel)
 
 unfoldable pub on_in : Settings → Bool → ℕ → List Window → List Channel → ℕ → Bool
 on_in settings counted enable windows channels c =

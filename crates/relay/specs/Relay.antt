@@ -12,10 +12,8 @@ use Rattle.relay.specs.declared.Channel.{Channel}
 use Rattle.relay.specs.declared.Levels.{Levels}
 use Rattle.relay.specs.declared.Settings.{Settings}
 use Rattle.relay.specs.declared.Relay.{Relay}
-use Rattle.relay.specs.declared.FreshAnswer.{FreshAnswer}
+use Rattle.relay.specs.declared.RelayAnswer.{RelayAnswer}
 use Rattle.relay.specs.declared.FrameAnswer.{FrameAnswer}
-use Rattle.relay.specs.declared.ResetAnswer.{ResetAnswer}
-use Rattle.relay.specs.declared.ChangeAnswer.{ChangeAnswer}
 use Rattle.relay.specs.Settings.{nine_sound, restraints_sound, lengths_sound, zero_settings, levels_of, settled}
 use Rattle.relay.specs.Channel.{no_channel, fresh_channel, cleared_of, window_after, channel_after, latch_on}
 use Rattle.relay.specs.Channel.{carried_over}
@@ -52,7 +50,7 @@ fresh_checks s = level_checks s.levels ++ ((lengths_sound s.lengths or_else bad_
 unfoldable pub fresh_refusal : Settings → ℕ
 fresh_refusal s = first_fault (fresh_checks s)
 
-unfoldable pub fresh_of : Settings → FreshAnswer
+unfoldable pub fresh_of : Settings → RelayAnswer
 fresh_of s =
     cond (eqb (fresh_refusal s) accepted)
     (record { relay = fresh_relay s; refusal = accepted })
@@ -150,7 +148,7 @@ unfoldable pub reset_channel : ℕ → List Channel → ℕ → Channel
 reset_channel mask channels c = cond (bit_of mask c) (cleared_of (get_or channels c no_channel)) (get_or channels c no_channel)
 
 -- "it clears runs and latches of the named channels and nothing else"
-unfoldable pub accepted_reset : Relay → ℕ → ResetAnswer
+unfoldable pub accepted_reset : Relay → ℕ → RelayAnswer
 accepted_reset r mask =
     record {
       relay = record {
@@ -164,7 +162,7 @@ accepted_reset r mask =
     }
 
 -- what refusals 2 and 5 return: "relay as given"
-unfoldable pub refused_reset : Relay → ℕ → ResetAnswer
+unfoldable pub refused_reset : Relay → ℕ → RelayAnswer
 refused_reset r refusal = record { relay = r; refusal = refusal }
 
 -- "a reset 2, 5": on a sound relay the "mask alone" decides
@@ -180,7 +178,7 @@ reset_checks r mask = (sound_of r or_else unsound_relay) ∷ mask_checks mask
 unfoldable pub reset_refusal : Relay → ℕ → ℕ
 reset_refusal r mask = first_fault (reset_checks r mask)
 
-unfoldable pub reset_of : Relay → ℕ → ResetAnswer
+unfoldable pub reset_of : Relay → ℕ → RelayAnswer
 reset_of r mask =
     cond (eqb (reset_refusal r mask) accepted)
     (accepted_reset r mask)
@@ -193,7 +191,7 @@ unfoldable pub changed_channel : Levels → Levels → List Channel → ℕ → 
 changed_channel old new channels c = carried_over (levels_of old c) (levels_of new c) (get_or channels c no_channel)
 
 -- "Windows, slot, age, latches and the remembered bit 6 carry over."
-unfoldable pub accepted_change : Relay → Levels → ChangeAnswer
+unfoldable pub accepted_change : Relay → Levels → RelayAnswer
 accepted_change r new =
     record {
       relay = record {
@@ -207,7 +205,7 @@ accepted_change r new =
     }
 
 -- what refusals 2, 1 and 20 return: "relay as given"
-unfoldable pub refused_change : Relay → ℕ → ChangeAnswer
+unfoldable pub refused_change : Relay → ℕ → RelayAnswer
 refused_change r refusal = record { relay = r; refusal = refusal }
 
 -- "Refused: 2 and then 1", then 20: on a sound relay the levels alone decide
@@ -217,7 +215,7 @@ change_checks r new = (sound_of r or_else unsound_relay) ∷ level_checks new
 unfoldable pub change_refusal : Relay → Levels → ℕ
 change_refusal r new = first_fault (change_checks r new)
 
-unfoldable pub change_of : Relay → Levels → ChangeAnswer
+unfoldable pub change_of : Relay → Levels → RelayAnswer
 change_of r new =
     cond (eqb (change_refusal r new) accepted)
     (accepted_change r new)

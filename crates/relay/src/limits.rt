@@ -1,10 +1,12 @@
 // Levels, harmonic restraint and run lengths: all that a level or a length is stands in this file.
 ghost use Rattle.std.specs.Prelude.{◌≡◌, ◌<◌, length};
+ghost use Rattle.refusals.specs.Outcomes.{refusal_in};
 ghost use Rattle.relay.specs.Settings.{levels_in_range, nine_sound, restraints_sound, lengths_sound, settings_sound};
 ghost use Rattle.relay.specs.Settings.{length_in_range, zero_settings, levels_of, unrestrained};
 ghost use Rattle.relay.specs.Relay.{level_refusal, fresh_refusal};
 
 use crate::{ChannelLevels, Lengths, Levels, Settings};
+use refusals::Refusal;
 
 // A frame that finds this age is counted.
 pub(crate) const SETTLED: u8 = 72;
@@ -23,24 +25,20 @@ fn levels_in_range(levels: &[u16]) -> bool
     ensures { result ≡ levels_in_range (length levels.now) levels.now }
 {
     let mut ok = true;
-    let mut k: usize = 0;
-    while k < levels.len() {
-        let level = levels[k];
+    for &level in levels {
         ok = ok & ((1 <= level) & (level <= MOST_LEVEL));
-        k += 1;
     }
     ok
 }
 
-// Each of the restraint levels is.
-fn restraints_in_range(restraint: [u8; 3]) -> bool
-    ensures { result ≡ restraints_sound restraint }
+// Each of the restraint levels is; all are looked at here too. No function over a type parameter serves both: it would
+// take the limits and the order of the numbers from its bound, which is no plainer.
+fn restraints_in_range(restraints: [u8; 3]) -> bool
+    ensures { result ≡ restraints_sound restraints }
 {
     let mut ok = true;
-    let mut k: usize = 0;
-    while k < 3 {
-        ok = ok & (restraint[k] <= MOST_RESTRAINT);
-        k += 1;
+    for restraint in restraints {
+        ok = ok & (restraint <= MOST_RESTRAINT);
     }
     ok
 }
@@ -57,7 +55,7 @@ fn length_in_range(len: u8) -> bool
 pub(crate) fn unrestrained(r: u8, fundamental: u16, second: u16) -> bool
     ensures { result ≡ unrestrained r fundamental second }
 {
-    (r == 0) | (100 * (second as u32) < (r as u32) * (fundamental as u32))
+    (r == 0) | (100 * u32::from(second) < u32::from(r) * u32::from(fundamental))
 }
 
 impl Lengths {
@@ -70,7 +68,7 @@ impl Lengths {
 }
 
 impl Settings {
-    // What the all-zero relay holds.
+    // What the all-zero relay holds. No `Default`: every call refuses these settings.
     pub(crate) fn zeros() -> Settings
         ensures { result ≡ zero_settings }
     {
@@ -89,25 +87,18 @@ impl Settings {
         ensures { result ≡ settings_sound self }
     {
         let levels = self.levels;
-        let restraint = levels.restraint;
-        let lengths = self.lengths;
-        levels.nine_sound() & restraints_in_range(restraint) & lengths.sound()
+        levels.nine_sound() & restraints_in_range(levels.restraint) & self.lengths.sound()
     }
 
-    // The number of the refusal of settings that are handed in, first check first; 0 where they are accepted.
-    pub(crate) fn refusal(self) -> u8
-        ensures { result ≡ fresh_refusal self }
+    // The checks of settings that are handed in, in their order.
+    pub(crate) fn check(self) -> Result<(), Refusal>
+        ensures { refusal_in result ≡ fresh_refusal self }
     {
-        let levels = self.levels;
-        let lengths = self.lengths;
-        let refusal = levels.refusal();
-        if refusal != refusals::ACCEPTED {
-            return refusal;
+        self.levels.check()?;
+        if !self.lengths.sound() {
+            return Err(Refusal::BadLength);
         }
-        if !lengths.sound() {
-            return refusals::BAD_LENGTH;
-        }
-        refusals::ACCEPTED
+        Ok(())
     }
 }
 
@@ -116,23 +107,20 @@ impl Levels {
     fn nine_sound(self) -> bool
         ensures { result ≡ nine_sound self }
     {
-        let drop = self.drop;
-        let pickup = self.pickup;
-        levels_in_range(&drop) & levels_in_range(&pickup)
+        levels_in_range(&self.drop) & levels_in_range(&self.pickup)
     }
 
-    // The number of the refusal of levels that are handed in, first check first; 0 where they are accepted.
-    pub(crate) fn refusal(self) -> u8
-        ensures { result ≡ level_refusal self }
+    // The checks of levels that are handed in, in their order.
+    pub(crate) fn check(self) -> Result<(), Refusal>
+        ensures { refusal_in result ≡ level_refusal self }
     {
-        let restraint = self.restraint;
         if !self.nine_sound() {
-            return refusals::BAD_SETTING;
+            return Err(Refusal::BadSetting);
         }
-        if !restraints_in_range(restraint) {
-            return refusals::BAD_RESTRAINT;
+        if !restraints_in_range(self.restraint) {
+            return Err(Refusal::BadRestraint);
         }
-        refusals::ACCEPTED
+        Ok(())
     }
 
     // The levels of one channel.
@@ -143,18 +131,16 @@ impl Levels {
         let drop = self.drop[c];
         if c < 3 {
             return ChannelLevels {
-                drop: drop,
+                drop,
                 pickup: 0,
                 restraint: 0,
                 current: false,
             };
         }
-        let pickup = self.pickup[c - 3];
-        let restraint = self.restraint[c - 3];
         ChannelLevels {
-            drop: drop,
-            pickup: pickup,
-            restraint: restraint,
+            drop,
+            pickup: self.pickup[c - 3],
+            restraint: self.restraint[c - 3],
             current: true,
         }
     }

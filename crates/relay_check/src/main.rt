@@ -4,80 +4,30 @@
 // implementation; reference/benchmark runs it on other inputs.
 #![tactic(auto)]
 
-ghost use Rattle.std.specs.Prelude.{◌^◌, ◌<◌};
+ghost use Rattle.std.specs.Prelude.{◌<◌};
 
-use relay::{Lengths, Levels, Relay, Settings};
-use std::io;
+use relay::Levels;
+use scenes::generator::Generator;
+use std::{array, io};
 
 // So many bytes are read at most.
 const MOST_INPUT: usize = 4096;
 
-// The frames of full runs: those of the bench program.
-const BENCH_LENGTHS: Lengths = Lengths { loss: 16, over: 4 };
-
-// The next state of the generator.
-fn next(state: u64) -> u64
-    requires { state < 2 ^ 31 }
-    ensures { result < 2 ^ 31 }
-{
-    (state * 1103515245 + 12345) % 2147483648
-}
-
-// Six codes, and the generator's state after them.
-#[derive(Clone, Copy)]
-struct Drawn {
-    state: u64,
-    codes: [u16; 6],
-}
-
-// Six codes, each of ten bits of a state.
-fn draw(seed: u64) -> Drawn {
-    let mut state = seed % 2147483648;
-    let mut codes = [0u16; 6];
-    let mut c: usize = 0;
-    while c < 6 {
-        state = next(state);
-        codes[c] = ((state >> 16) % 1024) as u16;
-        c += 1;
-    }
-    Drawn {
-        state: state,
-        codes: codes,
-    }
-}
-
-// An amplitude as a large number.
-fn wide(x: u16) -> u64
-    ensures { result < 2 ^ 16 }
-{
-    x as u64
-}
-
 // The sum of a frame's amplitudes and output byte.
 fn total(amplitudes: [u16; 6], output: u8) -> u64 {
-    let mut sum: u64 = output as u64;
-    let mut c: usize = 0;
-    while c < 6 {
-        sum = std::num::wrapping_add_u64(sum, wide(amplitudes[c]));
-        c += 1;
+    let mut sum = u64::from(output);
+    for amplitude in amplitudes {
+        sum = sum.wrapping_add(u64::from(amplitude));
     }
     sum
 }
 
-// The levels that the first byte asks for.
+// The levels that the first byte asks for. Two kinds by an `if`, here and in `hold_by`: a table of two is no plainer.
 fn levels_by(first: u8) -> Levels {
     if first < 128 {
-        return Levels {
-            drop: [819; 6],
-            pickup: [3413; 3],
-            restraint: [0; 3],
-        };
+        return scenes::alike_levels(819, 3413, 0);
     }
-    Levels {
-        drop: [819; 6],
-        pickup: [1; 3],
-        restraint: [first - 128; 3],
-    }
+    scenes::alike_levels(819, 1, first - 128)
 }
 
 // Each mask stands for 2 to the power of this many frames: 64, or more than there are.
@@ -94,26 +44,17 @@ fn enable_at(n: u64, hold: u64) -> u8
     (127 - (n >> hold) % 64) as u8
 }
 
-// One call of `frame`, so that it is compiled into the loop.
+// One call of `frame`, so that it is compiled into the loop. Each code is ten bits of a drawn number.
 fn run(frames: u64, first: u8) -> u64 {
     let hold = hold_by(first);
-    let made = Relay::fresh(Settings {
-        levels: levels_by(first),
-        lengths: BENCH_LENGTHS,
-    });
-    let mut relay = made.relay;
-    let mut state: u64 = 1;
+    let mut generator = Generator::<1103515245, 12345> { state: 1 };
+    let mut relay = scenes::bench_relay(levels_by(first));
     let mut sum: u64 = 0;
-    let mut n: u64 = 0;
-    while n < frames {
-        let drawn = draw(state);
-        state = drawn.state;
-        let codes = drawn.codes;
+    for n in 0..frames {
+        let codes = array::from_fn(|_| generator.draw() % 1024);
         let answer = relay.frame(codes, enable_at(n, hold));
         relay = answer.relay;
-        let amplitudes = answer.amplitudes;
-        sum = std::num::wrapping_add_u64(sum, total(amplitudes, answer.output));
-        n += 1;
+        sum = sum.wrapping_add(total(answer.amplitudes, answer.output));
     }
     sum
 }
@@ -121,7 +62,6 @@ fn run(frames: u64, first: u8) -> u64 {
 // 64 frames for each byte of the input, and their sum.
 fn main(rt: HostRuntime) -> io::Result<()> {
     let mut bytes = [0u8; MOST_INPUT];
-    let input = input::read_all(&mut rt.stdin(), &mut bytes);
-    let got = input.count as u64;
-    println!(rt; "{}", run(64 * got, bytes[0]))
+    let got = input::read_all(&mut rt.stdin(), &mut bytes).unwrap_or_else(|cut| cut.count);
+    println!(rt; "{}", run(64 * got as u64, bytes[0]))
 }

@@ -25,7 +25,7 @@ written_part : (cells bytes new : List ℕ) (r m : ℕ) → Answered (write_of c
 written_part cells bytes new r m a = sym (length-take-le m new (written_within cells bytes new r m a))
 
 pub slice_bounds-bytes-end : goal.slice_bounds-bytes-end
-slice_bounds-bytes-end g c = search written_within
+slice_bounds-bytes-end g c = written_within _ _ _ _ _ c.in-Ok.ensures
 
 pub slice_bounds-write_all-end : goal.slice_bounds-write_all-end
-slice_bounds-write_all-end g c = search written_part
+slice_bounds-write_all-end g c = written_part _ _ _ _ _ c.in-Ok.ensures

@@ -1,8 +1,7 @@
 -- `refused_frame` meets its contract, by computation.
 use Rattle.relay.specs.Relay.{refused_frame}
-use mathlib.Core.Path.{refl}
 use Rattle.relay.proofs.refused_frame.Goals as goal
 
 pub returns : goal.returns
 unfolding refused_frame
-returns c = refl
+returns c = rw c.into.ensures

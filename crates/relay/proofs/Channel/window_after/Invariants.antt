@@ -1,5 +1,5 @@
 -- `Channel::window_after` meets its contract. The invariant of its loop: the sample is stored once its slot is passed.
-use Prim.Native.Nat.{◌-◌, ℕ, ◌≤◌}
+use Prim.Native.Nat.{ℕ, ◌≤◌}
 use lib.Dec.{ltb}
 use lib.IntN.{ℤ}
 use lib.ListN.{set}
@@ -14,6 +14,3 @@ pub record Storing (slot : ℕ) (s : ℤ) (old samples : List ℤ) (k : ℕ) : T
 
 abbrev pub invariant-loop-k : goal.invariant-loop-k
 invariant-loop-k l = Storing l.slot l.s l.initial.samples l.samples l.k
-
-abbrev pub decreases-loop-k : goal.decreases-loop-k
-decreases-loop-k l = 8 - l.k

@@ -1,7 +1,7 @@
 -- `Relay::accepted_change` meets its contract: the six channels and the levels, and all else as it was.
 use Rattle.relay.specs.Internal.{changes_of}
 use Rattle.relay.specs.Relay.{accepted_change}
-use Rattle.relay.specs.declared.ChangeAnswer.{ChangeAnswer}
+use Rattle.relay.specs.declared.RelayAnswer.{RelayAnswer}
 use Rattle.relay.specs.declared.Channel.{Channel}
 use Rattle.relay.specs.declared.Levels.{Levels}
 use Rattle.relay.specs.declared.Relay.{Relay}
@@ -10,7 +10,7 @@ use mathlib.Core.Path.{◌≡◌}
 use Rattle.relay.proofs.Relay.accepted_change.Goals as goal
 
 made : (r : Relay) (new : Levels) (channels : List Channel) → channels ≡ changes_of r.settings.levels new r.channels
-    → ◌≡◌ {A = ChangeAnswer} (record {
+    → ◌≡◌ {A = RelayAnswer} (record {
       relay = record {
         channels = channels;
         age = r.age;

@@ -28,11 +28,12 @@ use mathlib.Core.Path.{◌≡◌, ap, ◌∙◌}
 use Rattle.relay.proofs.Relay.accepted_frame.Goals as goal
 
 -- what is made from the windows that step 1 leaves is what the frame's definitions say
-module _ (r : Relay) (codes : List ℕ) (enable : ℕ) (windows : List Window) (e : windows ≡ windows_of r.slot codes r.channels) where
+module _ (r : Relay) (codes : List ℕ) (enable slot : ℕ) (windows : List Window) (z : slot ≡ r.slot)
+    (e : windows ≡ windows_of slot codes r.channels) where
   window_is : (c : ℕ) → c < 6 → channel_window windows c ≡ window_in r.slot codes r.channels c
   unfolding windows_of
   window_is c h =
-      ap (λ (ws : List Window). channel_window ws c) e
+      ap (λ (ws : List Window). channel_window ws c) (e ∙ ap (λ (k : ℕ). windows_of k codes r.channels) z)
       ∙ ap (λ (w : Window). w.samples) (get_d_table 6 (stored_at r.slot codes r.channels) no_window c h)
 
   windows_sound_lem : frame_refusal r codes enable ≡ 0 → WindowsSound windows
@@ -58,25 +59,25 @@ module _ (r : Relay) (codes : List ℕ) (enable : ℕ) (windows : List Window) (
   unfolding on_in output_in
   on_is c h = ap (λ (ch : Channel). latch_on ch && enabled_in enable c) (channel_is c h)
 
-  made : (amplitudes : List ℕ) (found age slot : ℕ) (on : Bool) (m : ChannelsAndOutput)
+  made : (amplitudes : List ℕ) (found age next : ℕ) (on : Bool) (m : ChannelsAndOutput)
       → m ≡ channels_and_output r.settings (leb settled found) enable windows r.channels
       → amplitudes ≡ amplitudes_of windows
       → on ≡ bit_of enable 6
       → found ≡ found_by r.device_on on r.age
       → age ≡ age_after found
-      → slot ≡ slot_after r.slot
+      → next ≡ slot_after r.slot
       → ◌≡◌ {A = FrameAnswer} (record {
-        relay = record { channels = m.channels; age = age; slot = slot; device_on = on; settings = r.settings };
+        relay = record { channels = m.channels; age = age; slot = next; device_on = on; settings = r.settings };
         refusal = 0;
         amplitudes = amplitudes;
         output = m.output;
       }) (accepted_frame r codes enable)
   unfolding accepted_frame channels_and_output
-  made amplitudes found age slot on m p q o f a s =
+  made amplitudes found age next on m p q o f a s =
       rw (p, q, a, s, f, o, table_same 6 _ _ amplitude_is, table_same 6 _ _ channel_is, bits_same 6 _ _ on_is)
 
 pub windows_after-windows-requires : goal.windows_after-windows-requires
-windows_after-windows-requires c = search (slot_passed, codes_passed)
+windows_after-windows-requires c = rw c.from-slot.ensures (search (slot_passed, codes_passed))
 
 pub amplitudes-amplitudes-requires : goal.amplitudes-amplitudes-requires
 amplitudes-amplitudes-requires c = search windows_sound_lem

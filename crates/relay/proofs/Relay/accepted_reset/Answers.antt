@@ -4,13 +4,13 @@ use Rattle.relay.specs.Internal.{resets_of}
 use Rattle.relay.specs.Relay.{accepted_reset}
 use Rattle.relay.specs.declared.Channel.{Channel}
 use Rattle.relay.specs.declared.Relay.{Relay}
-use Rattle.relay.specs.declared.ResetAnswer.{ResetAnswer}
+use Rattle.relay.specs.declared.RelayAnswer.{RelayAnswer}
 use mathlib.Core.List.{List}
 use mathlib.Core.Path.{◌≡◌}
 use Rattle.relay.proofs.Relay.accepted_reset.Goals as goal
 
 made : (r : Relay) (mask : ℕ) (channels : List Channel) → channels ≡ resets_of mask r.channels
-    → ◌≡◌ {A = ResetAnswer} (record {
+    → ◌≡◌ {A = RelayAnswer} (record {
       relay = record { channels = channels; age = r.age; slot = r.slot; device_on = r.device_on; settings = r.settings };
       refusal = 0;
     }) (accepted_reset r mask)

@@ -1,29 +1,32 @@
 -- `Relay::fresh` meets its contract, for accepted settings and for refused ones.
 use Prim.Native.Nat.{ℕ}
-use Rattle.refusals.specs.Refusals.{accepted}
+use Rattle.refusals.specs.declared.Refusal.{Refusal}
+use Rattle.refusals.specs.Refusals.{accepted, number_of}
 use Rattle.relay.specs.Relay.{unused_relay, fresh_relay, fresh_refusal, fresh_of}
 use Rattle.relay.specs.Settings.{zero_settings}
-use Rattle.relay.specs.declared.FreshAnswer.{FreshAnswer}
 use Rattle.relay.specs.declared.Relay.{Relay}
+use Rattle.relay.specs.declared.RelayAnswer.{RelayAnswer}
 use Rattle.relay.specs.declared.Settings.{Settings}
-use borrow.Author.Tests.{ne_eqb}
+use Rattle.refusals.proofs.Exits.{not_accepted}
 use mathlib.Core.Bool.{false}
 use mathlib.Core.Path.{◌≡◌}
 use Rattle.relay.proofs.Relay.fresh.Goals as goal
 
-refused : (settings zeros : Settings) (n : ℕ) (r : Relay) → n ≡ fresh_refusal settings → ¬ (n ≡ 0) → zeros ≡ zero_settings
+refused : (settings zeros : Settings) (refusal : Refusal) (n : ℕ) (r : Relay) → n ≡ number_of refusal
+    → number_of refusal ≡ fresh_refusal settings
+    → zeros ≡ zero_settings
     → r ≡ unused_relay false zeros
-    → ◌≡◌ {A = FreshAnswer} (record { relay = r; refusal = n }) (fresh_of settings)
+    → ◌≡◌ {A = RelayAnswer} (record { relay = r; refusal = n }) (fresh_of settings)
 unfolding fresh_of
-refused settings zeros n r e h z q = rw (q, z, ← e, ne_eqb n 0 h)
+refused settings zeros refusal n r i e z q = rw (i, q, z, ← e, not_accepted refusal)
 
-made : (settings : Settings) (n : ℕ) (r : Relay) → n ≡ fresh_refusal settings → n ≡ 0 → r ≡ fresh_relay settings
-    → ◌≡◌ {A = FreshAnswer} (record { relay = r; refusal = accepted }) (fresh_of settings)
+made : (settings : Settings) (r : Relay) → 0 ≡ fresh_refusal settings → r ≡ fresh_relay settings
+    → ◌≡◌ {A = RelayAnswer} (record { relay = r; refusal = accepted }) (fresh_of settings)
 unfolding fresh_of
-made settings n r e h q = rw (q, ← e, h)
+made settings r e q = rw (q, ← e)
 
-pub returns-then-refusal-ne-ACCEPTED : goal.returns-then-refusal-ne-ACCEPTED
-returns-then-refusal-ne-ACCEPTED c = search refused
+pub returns-in-Ok : goal.returns-in-Ok
+returns-in-Ok c = search (made, c.in-Ok.ensures)
 
-pub returns : goal.returns
-returns c = search made
+pub returns-in-Err : goal.returns-in-Err
+returns-in-Err c = search (refused, c.in-Err.ensures)

@@ -1,31 +1,26 @@
 -- `Relay::reset` meets its contract, accepted or refused.
 use Prim.Native.Nat.{ℕ}
+use Rattle.refusals.specs.declared.Refusal.{Refusal}
+use Rattle.refusals.specs.Refusals.{number_of}
 use Rattle.relay.specs.Relay.{accepted_reset, refused_reset, reset_refusal, reset_of}
-use Rattle.relay.specs.Internal.{reset_refusal_by}
-use Rattle.relay.specs.Sound.{sound_of}
 use Rattle.relay.specs.declared.Relay.{Relay}
-use Rattle.relay.specs.declared.ResetAnswer.{ResetAnswer}
-use borrow.Author.Tests.{ne_eqb}
-use mathlib.Core.Bool.{Bool}
+use Rattle.relay.specs.declared.RelayAnswer.{RelayAnswer}
+use Rattle.refusals.proofs.Exits.{not_accepted}
 use mathlib.Core.Path.{◌≡◌}
 use Rattle.relay.proofs.Relay.reset.Goals as goal
 
-module _ (r : Relay) (mask n : ℕ) (s : Bool) (e : s ≡ sound_of r) (q : n ≡ reset_refusal_by s mask) where
-  -- the number that `reset_refusal` answers is that of the whole call
-  number_is : n ≡ reset_refusal r mask
-  unfolding reset_refusal_by reset_refusal
-  number_is = rw (q, e)
-
-  accepted : (a : ResetAnswer) → n ≡ 0 → a ≡ accepted_reset r mask → a ≡ reset_of r mask
+module _ (r : Relay) (mask : ℕ) where
+  accepted : (a : RelayAnswer) → 0 ≡ reset_refusal r mask → a ≡ accepted_reset r mask → a ≡ reset_of r mask
   unfolding reset_of
-  accepted a z p = rw (p, ← number_is, z)
+  accepted a q p = rw (p, ← q)
 
-  refused : (n ≡ 0 → ⊥) → ◌≡◌ {A = ResetAnswer} (record { relay = r; refusal = n }) (reset_of r mask)
+  refused : (refusal : Refusal) (n : ℕ) → n ≡ number_of refusal → number_of refusal ≡ reset_refusal r mask
+      → ◌≡◌ {A = RelayAnswer} (record { relay = r; refusal = n }) (reset_of r mask)
   unfolding reset_of refused_reset
-  refused z = rw (← number_is, ne_eqb n 0 z)
+  refused refusal n i q = rw (i, ← q, not_accepted refusal)
 
-pub returns-then-refusal-eq-ACCEPTED : goal.returns-then-refusal-eq-ACCEPTED
-returns-then-refusal-eq-ACCEPTED c = search accepted
+pub returns-in-Ok : goal.returns-in-Ok
+returns-in-Ok c = search (accepted, c.in-Ok.ensures)
 
-pub returns-else-refusal-eq-ACCEPTED : goal.returns-else-refusal-eq-ACCEPTED
-returns-else-refusal-eq-ACCEPTED c = search refused
+pub returns-in-Err : goal.returns-in-Err
+returns-in-Err c = search (refused, c.in-Err.ensures)

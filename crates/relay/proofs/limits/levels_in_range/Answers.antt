@@ -2,11 +2,8 @@
 use Rattle.lists.proofs.Tested.{tested_cases}
 use Rattle.relay.proofs.limits.levels_in_range.Goals as goal
 
-pub loop-k-init : goal.loop-k-init
-loop-k-init c = search tested_cases
+pub loop-level-init : goal.loop-level-init
+loop-level-init c = search tested_cases
 
-pub loop-k-preserved : goal.loop-k-preserved
-loop-k-preserved c = search tested_cases
-
-pub returns : goal.returns
-returns c = search tested_cases
+pub loop-level-preserved : goal.loop-level-preserved
+loop-level-preserved c = search tested_cases

@@ -3,11 +3,11 @@ use Rattle.lists.proofs.Tested.{tested_cases}
 use Rattle.relay.specs.Settings.{restraints_sound}
 use Rattle.relay.proofs.limits.restraints_in_range.Goals as goal
 
-pub loop-k-init : goal.loop-k-init
-loop-k-init c = search tested_cases
+pub loop-restraint-init : goal.loop-restraint-init
+loop-restraint-init c = search tested_cases
 
-pub loop-k-preserved : goal.loop-k-preserved
-loop-k-preserved c = search tested_cases
+pub loop-restraint-preserved : goal.loop-restraint-preserved
+loop-restraint-preserved c = search tested_cases
 
 pub returns : goal.returns
 unfolding restraints_sound

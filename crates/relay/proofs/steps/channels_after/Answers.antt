@@ -2,36 +2,23 @@
 use Prim.Native.Nat.{ℕ, ◌+◌, ◌^◌, ◌<◌, ◌≤◌}
 use Rattle.frames.proofs.Output.{bits_more, bits_lt}
 use Rattle.frames.specs.Bits.{bits_below, enabled_in}
-use Rattle.lists.proofs.Each.{get_d_table}
 use Rattle.lists.proofs.Filled.{filled_none, filled_more, filled_all, length_mapped}
-use Rattle.phasor.specs.Cordic.{amplitude_of}
-use Rattle.phasor.specs.Lanes.{channel_window, amplitudes_of}
+use Rattle.phasor.specs.Lanes.{channel_window}
 use Rattle.phasor.specs.declared.Window.{Window}
 use Rattle.relay.specs.Channel.{no_channel, channel_with}
-use Rattle.relay.specs.Internal.{channel_in, on_in, channels_and_output, unrestrained_at, unrestrained_in}
-use Rattle.relay.specs.Settings.{levels_of, unrestrained_by}
+use Rattle.relay.specs.Internal.{channel_in, on_in, channels_and_output}
+use Rattle.relay.specs.Settings.{levels_of}
 use Rattle.relay.specs.declared.Channel.{Channel}
 use Rattle.relay.specs.declared.ChannelsAndOutput.{ChannelsAndOutput}
-use Rattle.relay.specs.declared.ChannelLevels.{ChannelLevels}
 use Rattle.relay.specs.declared.Settings.{Settings}
 use borrow.Author.Rules.{rules}
 use lib.ListN.{length, get_or, set}
-use mathlib.Core.Bool.{Bool, false, ◌&&◌, ◌||◌, cond}
+use mathlib.Core.Bool.{Bool, ◌&&◌, ◌||◌, cond}
 use mathlib.Core.List.{List}
 use mathlib.Core.Path.{◌≡◌, refl, ◌∙◌}
 use native.Mathlib.Omega.{arith}
 use Rattle.relay.proofs.steps.channels_after.Invariants.{Making}
 use Rattle.relay.proofs.steps.channels_after.Goals as goal
-
-amplitude_is : (windows : List Window) (amplitudes : List ℕ) (c : ℕ) → amplitudes ≡ amplitudes_of windows → c < 6
-    → get_or amplitudes c 0 ≡ amplitude_of 1 (channel_window windows c)
-amplitude_is windows amplitudes c e h = rw e (get_d_table 6 (λ k. amplitude_of 1 (channel_window windows k)) 0 c h)
-
-free_is : (settings : Settings) (windows : List Window) (free : List Bool) (levels : ChannelLevels) (c : ℕ)
-    → free ≡ unrestrained_in settings windows → levels ≡ levels_of settings.levels c → c < 6
-    → get_or free c false ≡ unrestrained_by levels.restraint (channel_window windows c)
-unfolding unrestrained_in unrestrained_at
-free_is settings windows free levels c e l h = rw (e, l) (get_d_table 6 (unrestrained_at settings windows) false c h)
 
 begin : (settings : Settings) (counted : Bool) (enable : ℕ) (windows : List Window) (old : List Channel) → length old ≡ 6
     → Making settings counted enable windows old old 0 0
@@ -43,15 +30,16 @@ module _
     (making : Making settings counted enable windows old channels output c)
   where
     -- one turn more, from what the callees answer
-    again : (levels : ChannelLevels) (enabled : Bool) (ch : Channel) (out : ℕ) → c < 6
+    again : (enabled : Bool) (ch : Channel) (out : ℕ) → c < 6
         → enabled ≡ enabled_in enable c
-        → levels ≡ levels_of settings.levels c
-        → ch ≡ channel_with settings.lengths levels counted enabled (channel_window windows c) (get_or old c no_channel)
+        → ch
+        ≡ channel_with settings.lengths (levels_of settings.levels c) counted (enabled_in enable c) (channel_window windows c)
+        (get_or old c no_channel)
         → out ≡ output + cond ((ch.loss_latch || ch.over_latch) && enabled) (2 ^ c) 0
         → Making settings counted enable windows old (set channels c ch) out (c + 1)
     unfolding channel_in on_in
-    again levels enabled ch out h e l q o =
-        let made : ch ≡ channel_in settings counted enable windows old c = rw (q, e, l) in
+    again enabled ch out h e q o =
+        let made : ch ≡ channel_in settings counted enable windows old c = q in
         let on : (ch.loss_latch || ch.over_latch) && enabled ≡ on_in settings counted enable windows old c = rw (made, e) in
         record { filled = filled_more 6 _ channels c ch making.filled h made; bits = o ∙ bits_more c _ output _ making.bits on }
 
@@ -68,9 +56,6 @@ module _
 
 pub loop-c-init : goal.loop-c-init
 loop-c-init c = search (begin, length_mapped)
-
-pub after-channel-requires : goal.after-channel-requires
-after-channel-requires c = record { m_value = search amplitude_is; unrestrained_value = search free_is }
 
 pub with_bit-output-requires : goal.with_bit-output-requires
 with_bit-output-requires c = search (rules, output_lt)

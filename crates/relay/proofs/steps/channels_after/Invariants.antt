@@ -1,5 +1,5 @@
 -- `channels_after` meets its contract. The invariant of its loop: below c, the channels and the bits of the output are made.
-use Prim.Native.Nat.{◌-◌, ℕ}
+use Prim.Native.Nat.{ℕ}
 use Rattle.frames.specs.Bits.{bits_below}
 use Rattle.lists.proofs.Filled.{Filled}
 use Rattle.phasor.specs.declared.Window.{Window}
@@ -16,7 +16,4 @@ pub record Making (settings : Settings) (counted : Bool) (enable : ℕ) (windows
   pub bits : output ≡ bits_below c (on_in settings counted enable windows old)
 
 abbrev pub invariant-loop-c : goal.invariant-loop-c
-invariant-loop-c l = Making l.settings l.counted l.enable l.windows l.old l.channels l.output l.c
-
-abbrev pub decreases-loop-c : goal.decreases-loop-c
-decreases-loop-c l = 6 - l.c
+invariant-loop-c l = Making l.seen.settings l.seen.counted l.seen.enable l.seen.windows l.old l.channels l.output l.c

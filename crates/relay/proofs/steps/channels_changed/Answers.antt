@@ -1,6 +1,7 @@
--- `channels_changed` meets its contract. The invariant of its loop: the channels below c are made.
+-- `channels_changed` meets its contract: each channel is what new levels make of the old one.
 use Prim.Native.Nat.{ℕ}
-use Rattle.lists.proofs.Filled.{filled_none, filled_more, filled_all, length_mapped}
+use Rattle.std.proofs.Common.{rules}
+use Rattle.lists.proofs.Made.{made_table}
 use Rattle.relay.specs.Channel.{no_channel, carried_over}
 use Rattle.relay.specs.Internal.{changes_of}
 use Rattle.relay.specs.Relay.{changed_channel}
@@ -18,12 +19,7 @@ changed : (was new : Levels) (c : ℕ) (old : List Channel) (l m : ChannelLevels
 unfolding changed_channel
 changed was new c old l m ch e f q = rw (q, e, f)
 
-pub loop-c-init : goal.loop-c-init
-loop-c-init c = search (filled_none, length_mapped)
-
-pub loop-c-preserved : goal.loop-c-preserved
-loop-c-preserved c = search (filled_more, changed)
-
 pub returns : goal.returns
 unfolding changes_of
-returns c = search filled_all
+returns c =
+    made_table _ (changed_channel c.args.was c.args.new c.args.old) _ 6 (λ i y q l k. search (rules, changed)) _ c.from_fn.ensures.items

@@ -1,7 +1,8 @@
--- `channels_reset` meets its contract. The invariant of its loop: the channels below c are made.
+-- `channels_reset` meets its contract: each channel is what a reset makes of the old one.
 use Prim.Native.Nat.{ℕ}
-use Rattle.lists.proofs.Filled.{filled_none, filled_more, filled_all, length_mapped}
+use Rattle.std.proofs.Common.{rules}
 use Rattle.frames.specs.Bits.{bit_of}
+use Rattle.lists.proofs.Made.{made_table}
 use Rattle.relay.specs.Channel.{no_channel, cleared_of}
 use Rattle.relay.specs.Internal.{resets_of}
 use Rattle.relay.specs.Relay.{reset_channel}
@@ -17,12 +18,6 @@ reset : (mask c : ℕ) (old : List Channel) (b : Bool) (ch : Channel) → b ≡ 
 unfolding reset_channel
 reset mask c old b ch e q = rw (q, e)
 
-pub loop-c-init : goal.loop-c-init
-loop-c-init c = search (filled_none, length_mapped)
-
-pub loop-c-preserved : goal.loop-c-preserved
-loop-c-preserved c = search (filled_more, reset)
-
 pub returns : goal.returns
 unfolding resets_of
-returns c = search filled_all
+returns c = made_table _ (reset_channel c.args.mask c.args.old) _ 6 (λ i y q l k. search (rules, reset)) _ c.from_fn.ensures.items
