@@ -2,7 +2,7 @@
 use Prim.Native.Nat.{ℕ, zero, suc, ◌+◌, ◌-◌, ◌≤◌, ◌<◌}
 use mathlib.Core.Path.{◌≡◌, refl, sym, ◌∙◌, ap}
 use mathlib.Core.List.{List, [], ◌∷◌}
-use lib.ListN.{length, get_or, take, drop}
+use lib.ListN.{length, get_or, take, drop, drop_of_length-le}
 use lib.Seq.{take-nil, drop-cons, drop-drop}
 use native.Mathlib.Numerals.{add-one}
 use native.Mathlib.Omega.{arith}
@@ -37,10 +37,14 @@ module _ (codes : List ℕ) (f : ℕ) where
   unfolding rolled_on
   window_rolls = omega (arith, window_next)
 
-  -- The square of a frame that there is, by its code.
+  -- The square of a frame that there is, by its code, and of one that there is not.
   pub square_at_lem : f < length codes → square_at codes f ≡ squared (sample_of (get_or codes f 0))
   unfolding square_at squares
   square_at_lem h = rw (drop-cons codes f 0 h) (omega arith)
+
+  pub square_past : length codes ≤ f → square_at codes f ≡ 0
+  unfolding square_at squares
+  square_past h = rw (drop_of_length-le codes h)
 
 -- The step by the codes, from any number: that of the frame after the window's last enters, that of its first leaves.
 pub rolled_codes : (codes : List ℕ) (f sum : ℕ) → f + 8 < length codes

@@ -4,7 +4,8 @@
 
 use refusals::Refusal;
 use relay::{FrameAnswer, Relay};
-use scenes::{ALL_ENABLED, QUIET};
+use scenes::{ALL_ENABLED, QUIET, WAVE};
+use std::array;
 use std::io;
 use std::io::Write;
 
@@ -94,14 +95,14 @@ fn reset_one_phase() -> bool {
     (tripped.output == 24) & (reset.refusal == 0) & (after.output == 16) & (again.output == 24)
 }
 
-// The cells of the frames that are saved, with the wave on channel 3.
+// The cells of the frames that are saved, with the wave on channel 3: by each cell's place, and not by `put_frame`, by
+// which the reader puts them.
 fn filled() -> [u16; CELLS] {
-    let mut cells = [0u16; CELLS];
-    for n in 0..SAVED {
-        let codes = scenes::codes_in(n, 8, QUIET);
-        frames::cells::put_frame(&mut cells, 7 * usize::from(n), codes, ALL_ENABLED);
-    }
-    cells
+    array::from_fn(|i| match i % 7 {
+        6 => ALL_ENABLED.into(),
+        3 => WAVE[i / 7 % 8],
+        _ => QUIET,
+    })
 }
 
 // Whether the frames written as a capture and read back give the same cells.

@@ -61,18 +61,18 @@ pub record SomePutting (old : List ℕ) (from : ℕ) (old_cells : List ℕ) (f m
   pub put : SomePut old from old_cells f k numbers cells
 
 module _ (old : List ℕ) (from : ℕ) (old_cells : List ℕ) (f m : ℕ) where
-  some_none : (from + 55 + 6 * m ≤ length old) × (7 * (f + m) ≤ length old_cells) → SomePutting old from old_cells f m old old_cells 0
+  pub some_none : (from + 55 + 6 * m ≤ length old) × (7 * (f + m) ≤ length old_cells) → SomePutting old from old_cells f m old old_cells 0
   unfolding numbers_after cells_after
   some_none h = record { within = omega arith; room = h; put = record { numbers_are = refl; cells_are = refl } }
 
   module _ (numbers cells : List ℕ) (k : ℕ) (P : SomePutting old from old_cells f m numbers cells k) where
-    numbers_same : length numbers ≡ length old
+    pub numbers_same : length numbers ≡ length old
     numbers_same = ap length P.put.numbers_are ∙ numbers_kept old from k
 
-    cells_same : length cells ≡ length old_cells
+    pub cells_same : length cells ≡ length old_cells
     cells_same = ap length P.put.cells_are ∙ cells_kept old from old_cells f k
 
-    some_more : k < m → (new_numbers new_cells : List ℕ) → NextPut numbers (from + 6 * k) cells (f + k) new_numbers new_cells
+    pub some_more : k < m → (new_numbers new_cells : List ℕ) → NextPut numbers (from + 6 * k) cells (f + k) new_numbers new_cells
         → SomePutting old from old_cells f m new_numbers new_cells (k + 1)
     unfolding numbers_after cells_after
     some_more h new_numbers new_cells N =
@@ -170,7 +170,7 @@ pub record FramesPut (first old : List ℕ) (n : ℕ) (numbers cells : List ℕ)
   pub put : Put old 0 (frames_made (take 55 first) f) cells (7 * f)
 
 module _ (first old : List ℕ) (n : ℕ) where
-  frames_begin : 97 ≤ length first → 7 * n ≤ length old → FramesPut first old n first old 0 0
+  pub frames_begin : 97 ≤ length first → 7 * n ≤ length old → FramesPut first old n first old 0 0
   unfolding frames_made
   frames_begin a b =
       record {
@@ -231,7 +231,7 @@ module _ (first old : List ℕ) (n : ℕ) where
       (frames_after numbers cells from f m I (omega arith) (omega arith)) (omega arith) (omega (arith, numbers_kept numbers from m)))
 
   module _ (numbers cells : List ℕ) (from f : ℕ) (I : FramesPut first old n numbers cells from f) where
-    moved_put : (moved : List ℕ) (place : ℕ) → Moved numbers from moved place → FramesPut first old n moved cells place f
+    pub moved_put : (moved : List ℕ) (place : ℕ) → Moved numbers from moved place → FramesPut first old n moved cells place f
     moved_put moved place M =
         record {
           within = I.within;
@@ -242,7 +242,7 @@ module _ (first old : List ℕ) (n : ℕ) where
           put = I.put;
         }
 
-    some_put : (m : ℕ) → f + m ≤ n → from + 55 + 6 * m ≤ length numbers → (new_numbers new_cells : List ℕ)
+    pub some_put : (m : ℕ) → f + m ≤ n → from + 55 + 6 * m ≤ length numbers → (new_numbers new_cells : List ℕ)
         → SomePut numbers from cells f m new_numbers new_cells → FramesPut first old n new_numbers new_cells (from + 6 * m) (f + m)
     some_put m h r new_numbers new_cells S = rw (S.numbers_are, S.cells_are) (frames_after numbers cells from f m I h r)
 
@@ -256,14 +256,14 @@ module _ (first old : List ℕ) (n : ℕ) where
   going_begin a b = record { so_far = frames_begin first old n a b; inside = omega arith }
 
   module _ (numbers cells : List ℕ) (from f : ℕ) (G : Going first old n numbers cells from f) where
-    four_cells : 4 ≤ n - f → 7 * (f + 4) ≤ length cells
+    pub four_cells : 4 ≤ n - f → 7 * (f + 4) ≤ length cells
     four_cells h = omega (arith, G.so_far.put.kept, G.so_far.room)
 
     module _ (moved : List ℕ) (place : ℕ) (M : Moved numbers from moved place) where
-      four_numbers : place + 55 + 24 ≤ length moved
+      pub four_numbers : place + 55 + 24 ≤ length moved
       four_numbers = omega (arith, M.room)
 
-      going_again : 4 ≤ n - f → (new_numbers new_cells : List ℕ) → SomePut moved place cells f 4 new_numbers new_cells
+      pub going_again : 4 ≤ n - f → (new_numbers new_cells : List ℕ) → SomePut moved place cells f 4 new_numbers new_cells
           → Going first old n new_numbers new_cells (place + 24) (f + 4)
       going_again h new_numbers new_cells S =
           record {
@@ -273,10 +273,10 @@ module _ (first old : List ℕ) (n : ℕ) where
           }
 
     module _ (h : n - f < 4) where
-      rest_numbers : from + 55 + 6 * (n - f) ≤ length numbers
+      pub rest_numbers : from + 55 + 6 * (n - f) ≤ length numbers
       rest_numbers = omega (arith, G.inside)
 
-      rest_cells : 7 * (f + (n - f)) ≤ length cells
+      pub rest_cells : 7 * (f + (n - f)) ≤ length cells
       rest_cells = omega (arith, G.so_far.put.kept, G.so_far.room, G.so_far.within)
 
       module _ (new_numbers new_cells : List ℕ) (S : SomePut numbers from cells f (n - f) new_numbers new_cells) where
@@ -287,7 +287,7 @@ module _ (first old : List ℕ) (n : ℕ) where
             let I = some_put first old n numbers cells from f G.so_far (n - f) h rest_numbers new_numbers new_cells S in
             subst (λ (k : ℕ). FramesPut first old n new_numbers new_cells (from + 6 * (n - f)) k) (sym e) I
 
-        end_put : Put old 0 (frames_made (take 55 first) n) new_cells (7 * n)
+        pub end_put : Put old 0 (frames_made (take 55 first) n) new_cells (7 * n)
         end_put = all_put.put
 
 -- Four frames a turn, each four put into a part; k turns are done.
