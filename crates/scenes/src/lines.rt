@@ -1,10 +1,11 @@
 // The lines that several programs print.
 ghost use Rattle.std.specs.Prelude.{◌≡◌, OnOk, IfOk};
 ghost use Rattle.std.specs.Io.KnownBytes.{Appends};
-ghost use Rattle.text.specs.Text.{frame_line};
+ghost use Rattle.text.specs.Text.{spaced, frame_line};
 ghost use Rattle.relay.specs.Relay.{reset_of};
+ghost use Rattle.scenes.specs.Lines.{runs_of, runs_line, reset_line};
 
-use relay::{FrameAnswer, Relay};
+use relay::{Channel, FrameAnswer, Relay};
 use std::io;
 use std::io::Write;
 
@@ -23,26 +24,39 @@ pub fn show_frame<W: Write>(out: &mut W, n: u16, answer: &FrameAnswer) -> io::Re
 
 // A reset, and its line: the mask and the refusal that it answers.
 pub fn show_reset<W: Write>(out: &mut W, relay: Relay, mask: u8) -> io::Result<Relay>
-    ensures { IfOk result (λ next. next ≡ (reset_of relay mask).relay) }
+    ensures next { IfOk result (λ next. next ≡ (reset_of relay mask).relay) }
+    ensures text { OnOk result (Appends (W.contents out.old) (W.contents out.new)
+        (reset_line mask (reset_of relay mask).refusal)) }
 {
     let answer = relay.reset(mask);
     writeln!(out, "{mask} answers {}", answer.refusal)?;
     Ok(answer.relay)
 }
 
-// The runs that frame n left, where it was counted, and its output byte. A voltage has no over run.
-pub(crate) fn show_runs<W: Write>(out: &mut W, n: u16, answer: &FrameAnswer) -> io::Result<()> {
+// The loss runs, then the over runs of the currents, a space before each. A voltage has no over run.
+fn show_each_run<W: Write>(out: &mut W, channels: &[Channel; 6]) -> io::Result<()>
+    ensures { OnOk result (Appends (W.contents out.old) (W.contents out.new) (spaced (runs_of channels.now))) }
+{
+    for channel in channels {
+        let run = channel.loss_run;
+        write!(out, " {run}")?;
+    }
+    for current in &channels[3..] {
+        let run = current.over_run;
+        write!(out, " {run}")?;
+    }
+    Ok(())
+}
+
+// The runs that frame n left, where it was counted, and its output byte.
+pub(crate) fn show_runs<W: Write>(out: &mut W, n: u16, answer: &FrameAnswer) -> io::Result<()>
+    ensures { OnOk result (Appends (W.contents out.old) (W.contents out.new) (runs_line n answer.now)) }
+{
     if n < FIRST_COUNTED {
         return Ok(());
     }
-    let channels = &answer.relay.channels;
     let output = answer.output;
     write!(out, "{n}")?;
-    for channel in channels {
-        write!(out, " {}", channel.loss_run)?;
-    }
-    for current in &channels[3..] {
-        write!(out, " {}", current.over_run)?;
-    }
+    show_each_run(out, &answer.relay.channels)?;
     writeln!(out, " {output:02X}")
 }

@@ -1,7 +1,10 @@
 // Scenes: waves and new levels for a relay of its own, one after the other.
-ghost use Rattle.std.specs.Prelude.{◌≡◌, ◌-◌, IfOk, replicate};
+ghost use Rattle.std.specs.Prelude.{◌≡◌, ◌-◌, OnOk, IfOk, replicate};
+ghost use Rattle.std.specs.Io.KnownBytes.{Appends};
 ghost use Rattle.relay.specs.Relay.{fresh_of, frame_of, change_of};
+ghost use Rattle.scenes.specs.Lines.{runs_line, change_line};
 ghost use Rattle.scenes.specs.Played.{fed, played};
+ghost use Rattle.scenes.specs.PlayedText.{fed_text, played_text};
 
 use crate::{ALL_ENABLED, code_in, lines};
 use relay::{Levels, Relay, Settings};
@@ -25,7 +28,9 @@ pub struct Scene<'a> {
 
 // Frame n, with the same code on all channels, and its line.
 fn feed<W: Write>(out: &mut W, relay: Relay, code: u16, n: u16) -> io::Result<Relay>
-    ensures { IfOk result (λ next. next ≡ (frame_of relay (replicate 6 code) 127).relay) }
+    ensures next { IfOk result (λ next. next ≡ (frame_of relay (replicate 6 code) 127).relay) }
+    ensures text { OnOk result (Appends (W.contents out.old) (W.contents out.new)
+        (runs_line n (frame_of relay (replicate 6 code) 127))) }
 {
     let answer = relay.frame([code; 6], ALL_ENABLED);
     lines::show_runs(out, n, &answer)?;
@@ -40,7 +45,9 @@ fn feed_wave<W: Write>(
     first: u16,
     end: u16,
 ) -> io::Result<Relay>
-    ensures { IfOk result (λ next. next ≡ fed relay wave first (end - first)) }
+    ensures next { IfOk result (λ next. next ≡ fed relay wave first (end - first)) }
+    ensures text { OnOk result (Appends (W.contents out.old) (W.contents out.new)
+        (fed_text relay wave first (end - first))) }
 {
     for n in first..end {
         relay = feed(out, relay, code_in(&wave, n), n)?;
@@ -50,7 +57,9 @@ fn feed_wave<W: Write>(
 
 // New levels, and the refusal that they meet: 0 where they are accepted.
 fn change<W: Write>(out: &mut W, relay: Relay, levels: Levels) -> io::Result<Relay>
-    ensures { IfOk result (λ next. next ≡ (change_of relay levels).relay) }
+    ensures next { IfOk result (λ next. next ≡ (change_of relay levels).relay) }
+    ensures text { OnOk result (Appends (W.contents out.old) (W.contents out.new)
+        (change_line (change_of relay levels).refusal)) }
 {
     let answer = relay.change(levels);
     writeln!(out, "change {}", answer.refusal)?;
@@ -59,9 +68,11 @@ fn change<W: Write>(out: &mut W, relay: Relay, levels: Levels) -> io::Result<Rel
 
 impl Scene<'_> {
     // Its name, then a line for each counted frame and for each change; it answers the relay as the last step leaves
-    // it. Of what is printed it promises nothing: the stored outputs have the lines.
+    // it.
     pub fn play<W: Write>(&self, out: &mut W) -> io::Result<Relay>
-        ensures { IfOk result (λ relay. relay ≡ played (fresh_of self.now.settings).relay 0 self.now.steps.now) }
+        ensures next { IfOk result (λ relay. relay ≡ played (fresh_of self.now.settings).relay 0 self.now.steps.now) }
+        ensures text { OnOk result (Appends (W.contents out.old) (W.contents out.new)
+            (played_text self.now.name.now (fresh_of self.now.settings).relay self.now.steps.now)) }
     {
         writeln!(out, "{}", self.name)?;
         let mut relay = Relay::fresh(self.settings).relay;
