@@ -3,14 +3,29 @@
 // and not a failure, looks like a unit that has recorded nothing.
 #![tactic(auto)]
 
-use std::io;
+ghost use Rattle.std.specs.Prelude.{◌≡◌, IfOk, OnOk, OnErr};
+ghost use Rattle.bench.specs.Written.{Written};
 
-fn main(rt: HostRuntime) -> io::Result<()> {
+use input::Cut;
+use std::io;
+use std::io::{Read, Write};
+
+// Writes to the sink the report on what came from the source, or nothing where a read failed. Which bytes standard
+// input gives and standard output takes is the system's: no contract says it. Of a source and a sink whose bytes are
+// known, what is written is the report on the whole input (`whole_input`).
+fn write_report<R: Read, W: Write>(source: &mut R, sink: &mut W) -> Result<io::Result<()>, Cut>
+    ensures written { IfOk result (λ answer. OnOk answer (Written
+        (R.remaining source.old) (R.remaining source.new) (W.contents sink.old) (W.contents sink.new))) }
+    ensures cut { OnErr result (sink.new ≡ sink.old) }
+{
     let mut bytes = [0u8; report::INPUT];
-    let Ok(n) = input::read_all(&mut rt.stdin(), &mut bytes) else {
-        return Ok(());
-    };
+    let n = input::read_all(source, &mut bytes)?;
     let mut text = [0u8; report::ROOM];
     let m = report::report(&bytes[..n], &mut text);
-    rt.write_all(&text[..m])
+    Ok(sink.write_all(&text[..m]))
+}
+
+fn main(rt: HostRuntime) -> io::Result<()> {
+    // A failed read is told by the missing report alone; a failed write is the program's error.
+    write_report(&mut rt.stdin(), &mut io::writer(&rt)).unwrap_or(Ok(()))
 }
