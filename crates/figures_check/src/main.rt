@@ -5,9 +5,8 @@
 use refusals::Refusal;
 use relay::{FrameAnswer, Relay};
 use scenes::{ALL_ENABLED, QUIET, WAVE};
-use std::array;
-use std::io;
 use std::io::Write;
+use std::{array, io};
 
 // The highest level, as document 01 has it and not the relay's own constant: by a rule of the project what judges a
 // number does not take it from what is judged.
