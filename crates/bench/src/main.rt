@@ -11,8 +11,9 @@ use std::io;
 use std::io::{Read, Write};
 
 // Writes to the sink the report on what came from the source, or nothing where a read failed. Which bytes standard
-// input gives and standard output takes is the system's: no contract says it. Of a source and a sink whose bytes are
-// known, what is written is the report on the whole input (`whole_input`).
+// input gives and standard output takes, and whether a read or a write fails, is the system's: no contract says it. Of
+// a source and a sink whose bytes are known, and where neither failed, what is written is the report on the whole input
+// (`whole_input`).
 fn write_report<R: Read, W: Write>(source: &mut R, sink: &mut W) -> Result<io::Result<()>, Cut>
     ensures written { IfOk result (λ answer. OnOk answer (Written
         (R.remaining source.old) (R.remaining source.new) (W.contents sink.old) (W.contents sink.new))) }
